@@ -1,0 +1,154 @@
+-- The cells of error diffusion: sixteenths. Each is `sixteenths n`, never -0; a send adds weight times residual; source + cell, times 16, is a whole number that casts to an i32.
+-- Assumes nothing.
+use mathlib.Core.Path.{_≡_, refl, sym, ap, _∙_, subst}
+use Prim.Native.Nat.{ℕ, zero, suc, _+_, _-_, _*_, _^_, _≤_, _<_}
+use native.Mathlib.Nat.{mul-assoc, mul-one, mul-comm, mul-pos, lt-of-lt-of-le, lt-of-le-of-lt, mul-le-mul, le-of-lt, zero-mul, lt-irrefl}
+use native.Mathlib.Omega.{arith}
+use mathlib.Core.Bool.{Bool, true, false, cond}
+use lib.IntN.{ℤ, pos, negsuc, negℤ, natAbs, _+ℤ_, _-ℤ_, _*ℤ_}
+use lib.Dec.{T, leb, ltb, le→leb, lt→ltb, lit<, lit≤}
+use lib.Pow.{pow-mono}
+use lib.Ieee.{Float, fin, binary32, round, add, sub, mul, ofInt, ofBits, inSigned, toSigned, inFloat}
+use lib.Ieee.Back.{positive-back, negative-back}
+use lib.Ieee.Scale.{round-same}
+use Rattle.floats.specs.Over.{over, sixteenths, wholef}
+use Rattle.floats.specs.Cells.{Cell}
+use Rattle.floats.proofs.Over.{isNeg, over-is, over-value, add-over, mul-over, ofInt-over, whole-sub}
+
+-- ---- one fraction, with another denominator
+scaled : (z : ℤ) (d : ℕ) → 0 < d → (isNeg (z *ℤ pos d) ≡ isNeg z) × (natAbs (z *ℤ pos d) ≡ natAbs z * d)
+scaled (pos n) d D = (refl, refl)
+scaled (negsuc n) d D = go (suc n * d) (mul-pos (suc-pos n) D)
+  where
+    suc-pos : (k : ℕ) → 0 < suc k
+    suc-pos k = omega arith
+
+    go : (m : ℕ) → 0 < m → (isNeg (negℤ (pos m)) ≡ true) × (natAbs (negℤ (pos m)) ≡ m)
+    go zero h = absurd (lt-irrefl 0 h)
+    go (suc m) h = (refl, refl)
+
+pub over-scale : (c : ℕ) (z : ℤ) (d : ℕ) → 0 < c → 0 < d → over (c * d) (z *ℤ pos d) ≡ over c z
+over-scale c z d C D =
+    let k = scaled z d D in
+    over-is (c * d) (z *ℤ pos d)
+    ∙ (λ i. round binary32 (k .0 i) (k .1 i) (c * d))
+    ∙ round-same binary32 (isNeg z) (natAbs z * d) (c * d) (natAbs z) c (mul-pos C D) C (mul-assoc (natAbs z) d c ∙ ap (λ (x : ℕ). natAbs z * x) (mul-comm d c))
+    ∙ sym (over-is c z)
+
+pub whole-sixteenths : (z : ℤ) → wholef z ≡ sixteenths (z *ℤ pos 16)
+whole-sixteenths z = sym (over-scale 1 z 16 (lit< tt) (lit< tt))
+
+-- ---- the laws of sixteenths
+pub sixteenths-add : (n m : ℤ) → natAbs n < 2 ^ 24 → natAbs m < 2 ^ 24 → add binary32 (sixteenths n) (sixteenths m) ≡ sixteenths (n +ℤ m)
+sixteenths-add n m N M = add-over 4 n m (lit≤ tt) N M
+
+pub sixteenths-weight : (r : ℤ) (w : ℕ) → natAbs r < 2 ^ 24 → w < 2 ^ 24 → 0 < w → mul binary32 (wholef r) (sixteenths (pos w)) ≡ sixteenths (r *ℤ pos w)
+sixteenths-weight r w R W P = mul-over 0 4 r w (lit≤ tt) (lit≤ tt) R W P
+
+-- the weights' literals: 7 / 16, 5 / 16, 3 / 16, 1 / 16, and 1 / 8 as 2 / 16
+pub weight-7 : ofBits binary32 0x3ee0_0000 ≡ sixteenths (pos 7)
+unfolding ofBits over round
+weight-7 = refl
+
+pub weight-5 : ofBits binary32 0x3ea0_0000 ≡ sixteenths (pos 5)
+unfolding ofBits over round
+weight-5 = refl
+
+pub weight-3 : ofBits binary32 0x3e40_0000 ≡ sixteenths (pos 3)
+unfolding ofBits over round
+weight-3 = refl
+
+pub weight-1 : ofBits binary32 0x3d80_0000 ≡ sixteenths (pos 1)
+unfolding ofBits over round
+weight-1 = refl
+
+pub weight-2 : ofBits binary32 0x3e00_0000 ≡ sixteenths (pos 2)
+unfolding ofBits over round
+weight-2 = refl
+
+pub cell-zero : ofBits binary32 0 ≡ sixteenths (pos 0)
+unfolding ofBits over round
+cell-zero = refl
+
+pub sixteen : ofBits binary32 0x4180_0000 ≡ wholef (pos 16)
+unfolding ofBits over round
+sixteen = refl
+
+-- ---- times 16
+pub sixteenths-by-16 : (z : ℤ) → natAbs z < 2 ^ 24 → mul binary32 (sixteenths z) (wholef (pos 16)) ≡ wholef z
+sixteenths-by-16 z Z = mul-over 4 0 z 16 (lit≤ tt) (lit≤ tt) Z (lit< tt) (lit< tt) ∙ over-scale 1 z 16 (lit< tt) (lit< tt)
+
+-- ---- the cast of a whole number to an i32
+pub whole-cast : (z : ℤ) → natAbs z < 2 ^ 24 → T (inSigned binary32 31 (wholef z)) × (toSigned 31 (wholef z) ≡ z)
+whole-cast z Z = subst (λ (x : Float). T (inSigned binary32 31 x) × (toSigned 31 x ≡ z)) (ofInt-over z) (back z Z)
+  where
+    back : (z : ℤ) → natAbs z < 2 ^ 24 → T (inSigned binary32 31 (ofInt binary32 z)) × (toSigned 31 (ofInt binary32 z) ≡ z)
+    back (pos n) h = positive-back binary32 31 n (unfold inFloat in le→leb n (2 ^ 24) (le-of-lt h)) (lt-of-lt-of-le h (lit≤ tt))
+    back (negsuc n) h = negative-back binary32 31 n (unfold inFloat in le→leb (suc n) (2 ^ 24) (le-of-lt h)) (le-of-lt (lt-of-lt-of-le h (lit≤ tt)))
+
+-- ---- a byte plus a cell, times 16
+sum-small : (b : ℕ) (n : ℤ) → b < 256 → natAbs n < 2 ^ 20 → natAbs (pos (b * 16) +ℤ n) < 2 ^ 24
+sum-small b (pos n) B N = omega arith
+sum-small b (negsuc n) B N = go (ltb (b * 16) (suc n))
+  where
+    go : (t : Bool) → natAbs (cond t (negsuc (suc n - suc (b * 16))) (pos (b * 16 - suc n))) < 2 ^ 24
+    go true = omega arith
+    go false = omega arith
+
+byte-small : (b : ℕ) → b < 256 → b * 16 < 2 ^ 24
+byte-small b B = omega arith
+
+pub byte-plus-cell : (b : ℕ) (n : ℤ) → b < 256 → natAbs n < 2 ^ 20 → mul binary32 (add binary32 (ofInt binary32 (pos b)) (sixteenths n)) (wholef (pos 16)) ≡ wholef (pos (b * 16) +ℤ n)
+byte-plus-cell b n B N =
+    ap (λ (x : Float). mul binary32 (add binary32 x (sixteenths n)) (wholef (pos 16))) (ofInt-over (pos b) ∙ whole-sixteenths (pos b))
+    ∙ ap (λ (x : Float). mul binary32 x (wholef (pos 16))) (sixteenths-add (pos (b * 16)) n (byte-small b B) (lt-of-lt-of-le N (lit≤ tt)))
+    ∙ sixteenths-by-16 (pos (b * 16) +ℤ n) (sum-small b n B N)
+
+-- the same of a float that is a cell, with 16.0 as MIR has it, and its cast to an i32
+pub cell-cast : (b : ℕ) (x : Float) (n : ℤ) → b < 256 → Cell 4080 x n
+    → T (inSigned binary32 31 (mul binary32 (add binary32 (ofInt binary32 (pos b)) x) (ofBits binary32 0x4180_0000)))
+    × (toSigned 31 (mul binary32 (add binary32 (ofInt binary32 (pos b)) x) (ofBits binary32 0x4180_0000)) ≡ pos (b * 16) +ℤ n)
+cell-cast b x n B h =
+    let N : natAbs n < 2 ^ 20 = omega (arith, h .small) in
+    subst (λ (v : Float). T (inSigned binary32 31 v) × (toSigned 31 v ≡ pos (b * 16) +ℤ n))
+    (sym ((λ i. mul binary32 (add binary32 (ofInt binary32 (pos b)) (h .is i)) (sixteen i)) ∙ byte-plus-cell b n B N))
+    (whole-cast (pos (b * 16) +ℤ n) (sum-small b n B N))
+
+cell-small : (n : ℤ) → natAbs n ≤ 65536 → natAbs n < 2 ^ 24
+cell-small n h = omega arith
+
+residual-small : (r : ℤ) → natAbs r ≤ 255 → natAbs r < 2 ^ 24
+residual-small r h = omega arith
+
+weight-small : (w : ℕ) → w ≤ 16 → w < 2 ^ 24
+weight-small w h = omega arith
+
+-- ---- a send: weight times residual is added to a cell
+pub send : (x y v : Float) (n r : ℤ) (w : ℕ) → Cell 65536 x n → y ≡ wholef r → natAbs r ≤ 255 → v ≡ sixteenths (pos w) → 0 < w → w ≤ 16
+    → add binary32 x (mul binary32 y v) ≡ sixteenths (n +ℤ r *ℤ pos w)
+send x y v n r w h p R q W L =
+    (λ i. add binary32 (h .is i) (mul binary32 (p i) (q i)))
+    ∙ ap (λ (z : Float). add binary32 (sixteenths n) z) (sixteenths-weight r w (residual-small r R) (weight-small w L) W)
+    ∙ sixteenths-add n (r *ℤ pos w) (cell-small n (h .small)) (lt-of-le-of-lt (subst (λ (k : ℕ). k ≤ 255 * 16) (sym (scaled r w W .1)) (mul-le-mul R L)) (lit< tt))
+
+-- the difference of two bytes
+byte-whole : (b : ℕ) → b < 256 → b < 2 ^ 24
+byte-whole b h = omega arith
+
+pub byte-residual : (a b : ℕ) → a < 256 → b < 256 → sub binary32 (ofInt binary32 (pos a)) (ofInt binary32 (pos b)) ≡ wholef (pos a -ℤ pos b)
+byte-residual a b A B = (λ i. sub binary32 (ofInt-over (pos a) i) (ofInt-over (pos b) i)) ∙ whole-sub (pos a) (pos b) (byte-whole a A) (byte-whole b B)
+
+pub cell-range : (b : ℕ) (n : ℤ) → b < 256 → natAbs n ≤ 4080 → natAbs (pos (b * 16) +ℤ n) < 1000000
+cell-range b (pos n) B N = omega arith
+cell-range b (negsuc n) B N = go (ltb (b * 16) (suc n))
+  where
+    go : (t : Bool) → natAbs (cond t (negsuc (suc n - suc (b * 16))) (pos (b * 16 - suc n))) < 1000000
+    go true = omega arith
+    go false = omega arith
+
+-- ---- from a cell back to its number
+pub sixteenths-back : (n : ℤ) → natAbs n < 2 ^ 24 → toSigned 31 (mul binary32 (sixteenths n) (wholef (pos 16))) ≡ n
+sixteenths-back n N = ap (λ (x : Float). toSigned 31 x) (sixteenths-by-16 n N) ∙ whole-cast n N .1
+
+pub sixteenths-injective : (n m : ℤ) → natAbs n < 2 ^ 24 → natAbs m < 2 ^ 24 → sixteenths n ≡ sixteenths m → n ≡ m
+sixteenths-injective n m N M e = sym (sixteenths-back n N) ∙ ap (λ (x : Float). toSigned 31 (mul binary32 x (wholef (pos 16)))) e ∙ sixteenths-back m M

@@ -1,0 +1,11 @@
+-- The laws of `lists`.
+pub mod Bools
+pub mod GatherLaws
+pub mod FillLaws
+pub mod FirstLaws
+pub mod LeastLaws
+pub mod FrontLaws
+pub mod OrderLaws
+pub mod SlideLaws
+pub mod LowestLaws
+pub mod UniqueLaws

@@ -1,0 +1,2 @@
+-- The laws of `picture`.
+pub mod Opaque

@@ -1,0 +1,61 @@
+// What all calls on pictures share: the bounds of sizes and lent lengths, and the colours of a pixel.
+ghost use mathlib.Core.Path.{_≡_};
+ghost use Prim.Native.Nat.{_+_, _*_, _<_, _≤_};
+ghost use lib.ListN.{length};
+ghost use Rattle.picture.specs.Bounds.{sizeWrong, originWrong, tableWrong, sideWrong};
+ghost use Rattle.picture.specs.Pixels.{sourceAt, pixelAt, isOpaque};
+use color::NormalizedColor;
+use color::ReducedColor;
+
+// Whether a side is above 4,096 or there are more than 1,048,576 pixels.
+pub fn size_wrong(width: u32, height: u32) -> bool
+    ensures { λ r. ⌜ r ≡ sizeWrong width height ⌝ }
+{
+    (4096 < width) | ((4096 < height) | (1048576 < width as u64 * height as u64))
+}
+
+// Whether a side that starts at an origin ends above 4,294,967,295.
+pub fn origin_wrong(origin: u32, side: u32) -> bool
+    ensures { λ r. ⌜ r ≡ originWrong origin side ⌝ }
+{
+    4294967295 < origin as u64 + side as u64
+}
+
+// Whether a lent table has not 256 entries.
+pub fn table_wrong(entries: usize) -> bool
+    ensures { λ r. ⌜ r ≡ tableWrong entries ⌝ }
+{
+    entries != 256
+}
+
+// Whether a tile's side is not from 1 to 4,096.
+pub fn side_wrong(side: u32) -> bool
+    ensures { λ r. ⌜ r ≡ sideWrong side ⌝ }
+{
+    (side == 0) | (4096 < side)
+}
+
+// Pixel i as it was lent. No public call: the caller sees to the length.
+pub fn source_at(pixels: &[u8], i: usize) -> NormalizedColor
+    requires { ⌜ 4 * i + 3 < length (now pixels) ⌝ }
+    ensures { λ c. ⌜ c ≡ sourceAt (now (pixels .entry)) i ⌝ }
+{
+    NormalizedColor(color::rgba_at(pixels, i))
+}
+
+// Pixel i reduced. No public call: the caller sees to the lengths.
+pub fn pixel_at(reduction: &[u8], pixels: &[u8], i: usize) -> ReducedColor
+    requires { ⌜ (length (now reduction) ≡ 256) × (4 * i + 3 < length (now pixels)) ⌝ }
+    ensures { λ c. ⌜ c ≡ pixelAt (now (reduction .entry)) (now (pixels .entry)) i ⌝ }
+{
+    color::reduce_color(reduction, source_at(pixels, i))
+}
+
+// Whether pixel i is opaque: its reduced colour is not transparent. No public call: the caller sees to the length.
+pub fn is_opaque(pixels: &[u8], i: usize) -> bool
+    requires { ⌜ 4 * i + 3 < length (now pixels) ⌝ }
+    ensures { λ t. ⌜ t ≡ isOpaque (now (pixels .entry)) i ⌝ }
+{
+    let c = color::rgba_at(pixels, i);
+    128 <= c.a
+}
