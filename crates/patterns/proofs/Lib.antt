@@ -1,0 +1,7 @@
+-- The laws of `patterns`.
+pub mod Computed
+pub mod Numbers
+pub mod Kernels
+pub mod Thresholds
+pub mod EveryRow
+pub mod Unique

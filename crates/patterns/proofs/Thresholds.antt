@@ -1,0 +1,167 @@
+-- Thresholds. The answer by what a number stands for, and its number of document 01; the exact value of a threshold, (2 entry + 1) / 2n, strictly
+-- between 0 and 1; and that only the remainders of x and y by the matrix size count. What holds of each
+-- matrix is one computed test over the table. Assumes nothing.
+use mathlib.Core.Path.{_≡_, refl, sym, ap, _∙_, subst}
+use mathlib.Core.Bool.{Bool, true, false, cond, _&&_}
+use mathlib.Core.List.{List, []}
+use Prim.Native.Nat.{ℕ, _+_, _*_, _%_, _^_, _<_}
+use native.Mathlib.Nat.{mul-comm, mul-one}
+use native.Mathlib.Omega.{arith}
+use borrow.Author.Tests.{lt-leb}
+use lib.Dec.{T, eqb, leb, ltb, ltb→lt, lit≤, lit<}
+use lib.IntN.{pos}
+use lib.ListN.{length, getD}
+use lib.Ieee.{Float, binary32, round, add, div, ofInt, ofBits, lt}
+use Rattle.floats.specs.Over.{over, wholef}
+use Rattle.floats.specs.Bounds.{Upto}
+use Rattle.floats.specs.Bytes.{zeroF, oneF}
+use Rattle.floats.proofs.At.{div-at}
+use Rattle.floats.proofs.Over.{over-value, ofInt-over, add-over}
+use Rattle.floats.proofs.Sixteenths.{over-scale}
+use Rattle.floats.proofs.Within.{round-upto}
+use Rattle.patterns.specs.declared.Kind.{Kind}
+use Rattle.patterns.specs.declared.Thresholded.{Thresholded}
+use Rattle.patterns.specs.declared.Thresholded.the-variants.{At}
+use Rattle.patterns.specs.Kinds.{kindOf, Way, plain, ordered, diffused, none, wayIn, wayOf, hasMatrix, isOrdered}
+use Rattle.patterns.specs.Thresholds.{share, entry, thresholdIn, thresholdAt, answerIn, thresholdOf, numberOf}
+use Rattle.patterns.proofs.Computed.{all, all-at, both-left, both-right}
+use Rattle.patterns.proofs.Numbers.{by-number, of-all, ordered-way}
+
+-- ---- the literals of the code
+pub half : ofBits binary32 0x3f00_0000 ≡ over 2 (pos 1)
+unfolding ofBits over round
+half = refl
+
+pub two : ofBits binary32 0x4000_0000 ≡ wholef (pos 2)
+unfolding ofBits over round
+two = refl
+
+pub four : ofBits binary32 0x4080_0000 ≡ wholef (pos 4)
+unfolding ofBits over round
+four = refl
+
+pub sixty-four : ofBits binary32 0x4280_0000 ≡ wholef (pos 64)
+unfolding ofBits over round
+sixty-four = refl
+
+-- ---- the answer
+-- by what the number stands for
+pub answer-is : (k x y : ℕ) (r : Kind) → r ≡ kindOf k → answerIn (wayIn r) x y ≡ thresholdOf k x y
+unfolding thresholdOf wayOf
+answer-is k x y r e = ap (λ (v : Kind). answerIn (wayIn v) x y) e
+
+-- 1 exactly above 10, 9 exactly for 0, 9 and 10
+pub number-is : (k x y : ℕ) → numberOf (thresholdOf k x y) ≡ cond (leb k 10) (cond (leb 1 k && leb k 8) 0 9) 1
+unfolding thresholdOf wayOf kindOf
+number-is k x y = by-number (λ w. numberOf (answerIn w x y)) (λ k. cond (leb k 10) (cond (leb 1 k && leb k 8) 0 9) 1) refl (λ k h. rw (lt-leb k 10 h)) k
+
+-- an ordered kind's answer is its threshold
+pub ordered-answer : (k x y : ℕ) → T (isOrdered k) → thresholdOf k x y ≡ At (thresholdAt k x y)
+unfolding isOrdered thresholdOf thresholdAt
+ordered-answer k x y h = go (wayOf k) h
+  where
+    go : (w : Way) → T (hasMatrix w) → answerIn w x y ≡ At (thresholdIn w x y)
+    go plain h = absurd h
+    go (ordered m n) h = refl
+    go (diffused k) h = absurd h
+    go none h = absurd h
+
+-- ---- only the remainders by the matrix size count
+abbrev pub sizeIn : Way → ℕ
+sizeIn plain = 0
+sizeIn (ordered m n) = length m
+sizeIn (diffused k) = 0
+sizeIn none = 0
+
+pub repeats : (k x y x' y' : ℕ) → x % sizeIn (wayOf k) ≡ x' % sizeIn (wayOf k) → y % sizeIn (wayOf k) ≡ y' % sizeIn (wayOf k) → thresholdOf k x y ≡ thresholdOf k x' y'
+unfolding thresholdOf
+repeats k x y x' y' p q = go (wayOf k) p q
+  where
+    go : (w : Way) → x % sizeIn w ≡ x' % sizeIn w → y % sizeIn w ≡ y' % sizeIn w → answerIn w x y ≡ answerIn w x' y'
+    go plain p q = refl
+    go (ordered m n) p q = λ i. At (share (getD (getD m (q i) []) (p i) 0) (wholef (pos n)))
+    go (diffused k) p q = refl
+    go none p q = refl
+
+-- ---- the value: (2 entry + 1) / 2n
+plus-half : (e : ℕ) → e < 256 → add binary32 (ofInt binary32 (pos e)) (over 2 (pos 1)) ≡ over 2 (pos (2 * e + 1))
+plus-half e E =
+    let double : e * 2 < 2 ^ 24 = omega arith in
+    ap (λ (v : Float). add binary32 v (over 2 (pos 1))) (ofInt-over (pos e) ∙ sym (over-scale 1 (pos e) 2 (lit< tt) (lit< tt)))
+    ∙ add-over 1 (pos (e * 2)) (pos 1) (lit≤ tt) double (lit< tt)
+    ∙ ap (λ (z : ℕ). over 2 (pos (z + 1))) (mul-comm e 2)
+
+pub share-is : (e n : ℕ) → e < 256 → 0 < n → n < 256 → share e (wholef (pos n)) ≡ over (2 * n) (pos (2 * e + 1))
+unfolding share over
+share-is e n E P N =
+    let small : 2 * e + 1 < 2 ^ 24 = omega arith in
+    ap (λ (v : Float). div binary32 v (wholef (pos n))) (plus-half e E)
+    ∙ div-at binary32 (over 2 (pos (2 * e + 1))) (wholef (pos n)) false false (2 * e + 1) 2 n 1 (lit< tt) (lit< tt) P
+    (over-value 1 (pos (2 * e + 1)) (lit≤ tt) small) (over-value 0 (pos n) (lit≤ tt) (omega arith))
+    ∙ (λ i. round binary32 false (mul-one (2 * e + 1) i) (mul-comm n 2 i))
+
+-- ---- the matrices of the table
+-- a matrix whose rows are as many as its columns
+abbrev pub square : Way → Bool
+square plain = true
+square (ordered m n) = all (λ (r : List ℕ). eqb (length r) (length m)) m
+square (diffused k) = true
+square none = true
+
+pub squares : (k : ℕ) → T (square (wayOf k))
+unfolding wayOf kindOf
+squares k = of-all square refl refl k
+
+-- the entry is below n, and its threshold strictly between 0 and 1
+strict : ℕ → ℕ → Bool
+strict n e = ltb e n && (lt zeroF (over (2 * n) (pos (2 * e + 1))) && lt (over (2 * n) (pos (2 * e + 1))) oneF)
+
+-- n is from 1 to 255, and each entry is strict, as is the 0 that stands for none
+good : Way → Bool
+good plain = true
+good (ordered m n) = (ltb 0 n && ltb n 256) && (strict n 0 && all (all (strict n)) m)
+good (diffused k) = true
+good none = true
+
+goods : (k : ℕ) → T (good (wayOf k))
+unfolding wayOf kindOf over round lt good strict
+goods k = of-all good refl refl k
+
+-- ---- an ordered kind's threshold: its value, finite and strictly between 0 and 1
+pub record Between (e n : ℕ) (t : Float) : Type 0 where
+  pub entry-below : e < n
+  pub value : t ≡ over (2 * n) (pos (2 * e + 1))
+  pub above-0 : T (lt zeroF t)
+  pub below-1 : T (lt t oneF)
+  pub finite : Upto 1 t
+
+strict-between : (e n : ℕ) → 0 < n → n < 256 → T (strict n e) → Between e n (share e (wholef (pos n)))
+unfolding strict
+strict-between e n P N s =
+    let t : Float = over (2 * n) (pos (2 * e + 1)) in
+    let inside : e < n = ltb→lt e n (both-left (ltb e n) (lt zeroF t && lt t oneF) s) in
+    let parts = both-right (ltb e n) (lt zeroF t && lt t oneF) s in
+    let is : share e (wholef (pos n)) ≡ t = share-is e n (omega arith) P N in
+    record {
+      entry-below = inside;
+      value = is;
+      above-0 = subst (λ (v : Float). T (lt zeroF v)) (sym is) (both-left (lt zeroF t) (lt t oneF) parts);
+      below-1 = subst (λ (v : Float). T (lt v oneF)) (sym is) (both-right (lt zeroF t) (lt t oneF) parts);
+      finite = subst (λ (v : Float). Upto 1 v) (sym is) (unfold over in round-upto 1 (2 * e + 1) (2 * n) (omega arith) (lit≤ tt) (omega arith));
+    }
+
+pub between : (k x y n : ℕ) (m : List (List ℕ)) → wayOf k ≡ ordered m n → Between (entry m x y) n (thresholdAt k x y)
+unfolding thresholdAt good
+between k x y n m e =
+    let g = subst (λ (w : Way). T (good w)) e (goods k) in
+    let sizes = both-left (ltb 0 n && ltb n 256) (strict n 0 && all (all (strict n)) m) g in
+    let entries = both-right (ltb 0 n && ltb n 256) (strict n 0 && all (all (strict n)) m) g in
+    let zero = both-left (strict n 0) (all (all (strict n)) m) entries in
+    let here = all-at (strict n) (getD m (y % length m) []) 0 zero (all-at (all (strict n)) m [] tt (both-right (strict n 0) (all (all (strict n)) m) entries) (y % length m)) (x % length m) in
+    subst (λ (w : Way). Between (entry m x y) n (thresholdIn w x y)) (sym e) (strict-between (entry m x y) n (ltb→lt 0 n (both-left (ltb 0 n) (ltb n 256) sizes)) (ltb→lt n 256 (both-right (ltb 0 n) (ltb n 256) sizes)) here)
+
+pub strictly-between : (k x y : ℕ) → T (isOrdered k) → T (lt zeroF (thresholdAt k x y)) × T (lt (thresholdAt k x y) oneF) × Upto 1 (thresholdAt k x y)
+strictly-between k x y h =
+    let w = ordered-way k h in
+    let b = between k x y (w .1) (w .0) (w .2) in
+    (b .above-0, b .below-1, b .finite)

@@ -1,0 +1,97 @@
+-- The eleven kinds of dithering by number, and how each of them dithers. Definitions only.
+-- Written from document 01: "Dither kinds are numbered 0 to 10 in the source's order"; "n being 4, 16, 64 for Bayer, 2 for checker and
+-- lines, 4 for stipples"; and the diffusion paragraph, for the kernels.
+use Prim.Native.Nat.{ℕ}
+use mathlib.Core.Bool.{Bool, true, false}
+use mathlib.Core.List.{List, [], _∷_, map}
+use lib.ListN.{getD}
+use Rattle.patterns.specs.declared.Dither.{Dither}
+use Rattle.patterns.specs.declared.Dither.the-variants.{Off, Bayer2x2, Bayer4x4, Bayer8x8, Checker, StippleV, StippleH, LineV, LineH, Atkinson, FloydSteinberg}
+use Rattle.patterns.specs.declared.Kind.{Kind}
+use Rattle.patterns.specs.declared.Kind.the-variants.{Known, Unknown}
+use Rattle.patterns.specs.Matrices.{bayer2x2, bayer4x4, bayer8x8, checker, stippleV, stippleH, lineV, lineH}
+use Rattle.patterns.specs.Kernel.{Target, atkinson, floydSteinberg}
+
+-- the kinds in the source's order: a kind's number is its place here
+abbrev pub kinds : List Dither
+kinds = Off ∷ Bayer2x2 ∷ Bayer4x4 ∷ Bayer8x8 ∷ Checker ∷ StippleV ∷ StippleH ∷ LineV ∷ LineH ∷ Atkinson ∷ FloydSteinberg ∷ []
+
+-- the kind with a number
+unfoldable pub kindOf : ℕ → Kind
+kindOf k = getD (map Known kinds) k Unknown
+
+-- how a kind dithers: not at all, by a matrix and its n, or by a kernel; where there is no kind, there is no way
+pub data Way : Type 0 where
+  plain : Way
+  ordered : List (List ℕ) → ℕ → Way
+  diffused : List Target → Way
+  none : Way
+
+-- the table: which matrix and which n a kind has, or which kernel
+abbrev pub way : Dither → Way
+way Off = plain
+way Bayer2x2 = ordered bayer2x2 4
+way Bayer4x4 = ordered bayer4x4 16
+way Bayer8x8 = ordered bayer8x8 64
+way Checker = ordered checker 2
+way StippleV = ordered stippleV 4
+way StippleH = ordered stippleH 4
+way LineV = ordered lineV 2
+way LineH = ordered lineH 2
+way Atkinson = diffused atkinson
+way FloydSteinberg = diffused floydSteinberg
+
+-- the same of what a number stands for
+abbrev pub wayIn : Kind → Way
+wayIn (Known d) = way d
+wayIn Unknown = none
+
+-- how the kind with a number dithers
+unfoldable pub wayOf : ℕ → Way
+wayOf k = wayIn (kindOf k)
+
+-- ---- what is asked of a way
+-- it is that of Off
+abbrev pub isPlain : Way → Bool
+isPlain plain = true
+isPlain (ordered m n) = false
+isPlain (diffused k) = false
+isPlain none = false
+
+-- it goes by a matrix
+abbrev pub hasMatrix : Way → Bool
+hasMatrix plain = false
+hasMatrix (ordered m n) = true
+hasMatrix (diffused k) = false
+hasMatrix none = false
+
+-- it goes by a kernel
+abbrev pub hasKernel : Way → Bool
+hasKernel plain = false
+hasKernel (ordered m n) = false
+hasKernel (diffused k) = true
+hasKernel none = false
+
+-- its kernel
+abbrev pub kernelIn : Way → List Target
+kernelIn plain = []
+kernelIn (ordered m n) = []
+kernelIn (diffused k) = k
+kernelIn none = []
+
+-- ---- the same of a kind's number (which numbers these are: proofs/Numbers)
+-- Off
+unfoldable pub isOff : ℕ → Bool
+isOff k = isPlain (wayOf k)
+
+-- the kinds that have a threshold
+unfoldable pub isOrdered : ℕ → Bool
+isOrdered k = hasMatrix (wayOf k)
+
+-- the kinds that diffuse error: Atkinson and Floyd-Steinberg
+unfoldable pub isDiffusion : ℕ → Bool
+isDiffusion k = hasKernel (wayOf k)
+
+-- a diffusion kind's kernel; another kind has no target
+unfoldable pub kernelOf : ℕ → List Target
+kernelOf k = kernelIn (wayOf k)

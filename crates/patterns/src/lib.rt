@@ -1,0 +1,229 @@
+// Thresholds and kernels: the kinds of dithering by number, the eight threshold matrices, and the two kernels of error
+// diffusion. Names and order are those of src/dither.rs.
+ghost use mathlib.Core.Path.{_≡_};
+ghost use lib.Dec.{T};
+ghost use Rattle.patterns.specs.Kernel.{Arrays, atkinson, floydSteinberg};
+ghost use Rattle.patterns.specs.Kinds.{kindOf, isOrdered, isDiffusion};
+ghost use Rattle.patterns.specs.Thresholds.{share, entryIn, thresholdAt, thresholdOf};
+
+// A kind of dithering.
+pub enum Dither {
+    // No dithering.
+    Off,
+    // Bayer 2x2 dithering.
+    Bayer2x2,
+    // Bayer 4x4 dithering.
+    Bayer4x4,
+    // Bayer 8x8 dithering.
+    Bayer8x8,
+    // Checkerboard dithering.
+    Checker,
+    // Vertical stippled dithering.
+    StippleV,
+    // Horizontal stippled dithering.
+    StippleH,
+    // Vertical line dithering.
+    LineV,
+    // Horizontal line dithering.
+    LineH,
+    // Atkinson error-diffusion dithering.
+    Atkinson,
+    // Floyd-Steinberg error-diffusion dithering.
+    FloydSteinberg,
+}
+
+// A kind's number is its place here.
+const KINDS: [Dither; 11] = [
+    Dither::Off,
+    Dither::Bayer2x2,
+    Dither::Bayer4x4,
+    Dither::Bayer8x8,
+    Dither::Checker,
+    Dither::StippleV,
+    Dither::StippleH,
+    Dither::LineV,
+    Dither::LineH,
+    Dither::Atkinson,
+    Dither::FloydSteinberg,
+];
+
+// What a number stands for.
+pub enum Kind {
+    Known(Dither),
+    Unknown,
+}
+
+// The kind with a number.
+pub fn dither_of(kind: u32) -> Kind
+    ensures { λ r. ⌜ r ≡ kindOf kind ⌝ }
+{
+    if kind <= 10 {
+        return Kind::Known(KINDS[kind as usize]);
+    }
+    Kind::Unknown
+}
+
+// Whether a kind dithers by a matrix: from Bayer2x2 to LineH.
+pub fn is_ordered(kind: u32) -> bool
+    ensures { λ r. ⌜ r ≡ isOrdered kind ⌝ }
+{
+    (1 <= kind) & (kind <= 8)
+}
+
+// Whether a kind diffuses error: Atkinson or FloydSteinberg.
+pub fn is_diffusion(kind: u32) -> bool
+    ensures { λ r. ⌜ r ≡ isDiffusion kind ⌝ }
+{
+    (kind == 9) | (kind == 10)
+}
+
+// ---- thresholds
+
+const BAYER_2X2_MATRIX: [[u8; 2]; 2] = [[0, 2], [3, 1]];
+
+const BAYER_4X4_MATRIX: [[u8; 4]; 4] = [
+    [0, 8, 2, 10],
+    [12, 4, 14, 6],
+    [3, 11, 1, 9],
+    [15, 7, 13, 5],
+];
+
+const BAYER_8X8_MATRIX: [[u8; 8]; 8] = [
+    [0, 48, 12, 60, 3, 51, 15, 63],
+    [32, 16, 44, 28, 35, 19, 47, 31],
+    [8, 56, 4, 52, 11, 59, 7, 55],
+    [40, 24, 36, 20, 43, 27, 39, 23],
+    [2, 50, 14, 62, 1, 49, 13, 61],
+    [34, 18, 46, 30, 33, 17, 45, 29],
+    [10, 58, 6, 54, 9, 57, 5, 53],
+    [42, 26, 38, 22, 41, 25, 37, 21],
+];
+
+const CHECKER_MATRIX: [[u8; 2]; 2] = [[0, 1], [1, 0]];
+
+const STIPPLE_V_MATRIX: [[u8; 2]; 2] = [[3, 0], [2, 1]];
+
+const STIPPLE_H_MATRIX: [[u8; 2]; 2] = [[3, 2], [0, 1]];
+
+const LINE_V_MATRIX: [[u8; 2]; 2] = [[1, 0], [1, 0]];
+
+const LINE_H_MATRIX: [[u8; 2]; 2] = [[1, 1], [0, 0]];
+
+// The threshold of an entry.
+fn share_of(entry: u8, n: f32) -> f32
+    ensures { λ r. ⌜ r ≡ share entry n ⌝ }
+{
+    (entry as f32 + 0.5) / n
+}
+
+// The threshold at row y and column x of a matrix, both reduced to its size.
+fn threshold_2x2(matrix: [[u8; 2]; 2], n: f32, x: u32, y: u32) -> f32
+    ensures { λ r. ⌜ r ≡ share (entryIn 2 matrix x y) n ⌝ }
+{
+    share_of(matrix[(y % 2) as usize][(x % 2) as usize], n)
+}
+
+fn threshold_4x4(matrix: [[u8; 4]; 4], n: f32, x: u32, y: u32) -> f32
+    ensures { λ r. ⌜ r ≡ share (entryIn 4 matrix x y) n ⌝ }
+{
+    share_of(matrix[(y % 4) as usize][(x % 4) as usize], n)
+}
+
+fn threshold_8x8(matrix: [[u8; 8]; 8], n: f32, x: u32, y: u32) -> f32
+    ensures { λ r. ⌜ r ≡ share (entryIn 8 matrix x y) n ⌝ }
+{
+    share_of(matrix[(y % 8) as usize][(x % 8) as usize], n)
+}
+
+// What `ordered_threshold` answers.
+pub enum Thresholded {
+    At(f32),
+    Refused(u8),
+}
+
+// The threshold of a kind at column x and row y; 1 for a number above 10; 9 for a kind that has no matrix.
+pub fn ordered_threshold(kind: u32, x: u32, y: u32) -> Thresholded
+    ensures { λ r. ⌜ r ≡ thresholdOf kind x y ⌝ }
+{
+    let Kind::Known(dither) = dither_of(kind) else {
+        return Thresholded::Refused(1);
+    };
+    match dither {
+        Dither::Bayer2x2 => Thresholded::At(threshold_2x2(BAYER_2X2_MATRIX, 4.0, x, y)),
+        Dither::Bayer4x4 => Thresholded::At(threshold_4x4(BAYER_4X4_MATRIX, 16.0, x, y)),
+        Dither::Bayer8x8 => Thresholded::At(threshold_8x8(BAYER_8X8_MATRIX, 64.0, x, y)),
+        Dither::Checker => Thresholded::At(threshold_2x2(CHECKER_MATRIX, 2.0, x, y)),
+        Dither::StippleV => Thresholded::At(threshold_2x2(STIPPLE_V_MATRIX, 4.0, x, y)),
+        Dither::StippleH => Thresholded::At(threshold_2x2(STIPPLE_H_MATRIX, 4.0, x, y)),
+        Dither::LineV => Thresholded::At(threshold_2x2(LINE_V_MATRIX, 2.0, x, y)),
+        Dither::LineH => Thresholded::At(threshold_2x2(LINE_H_MATRIX, 2.0, x, y)),
+        Dither::Off | Dither::Atkinson | Dither::FloydSteinberg => Thresholded::Refused(9),
+    }
+}
+
+// The threshold of an ordered kind. No public call: the caller sees to the kind.
+pub fn threshold_at(kind: u32, x: u32, y: u32) -> f32
+    requires { ⌜ T (isOrdered kind) ⌝ }
+    ensures { λ r. ⌜ r ≡ thresholdAt kind x y ⌝ }
+{
+    match ordered_threshold(kind, x, y) {
+        Thresholded::At(threshold) => threshold,
+        Thresholded::Refused(_) => 0.0,
+    }
+}
+
+// ---- kernels of error diffusion: for each target how many columns to the right, how many rows down, and the factor
+
+const ATKINSON_DX: [i32; 6] = [1, 2, -1, 0, 1, 0];
+
+const ATKINSON_DY: [u32; 6] = [0, 0, 1, 1, 1, 2];
+
+const ATKINSON_RATIO: [f32; 6] = [
+    1.0 / 8.0,
+    1.0 / 8.0,
+    1.0 / 8.0,
+    1.0 / 8.0,
+    1.0 / 8.0,
+    1.0 / 8.0,
+];
+
+const FLOYD_STEINBERG_DX: [i32; 4] = [1, -1, 0, 1];
+
+const FLOYD_STEINBERG_DY: [u32; 4] = [0, 1, 1, 1];
+
+const FLOYD_STEINBERG_RATIO: [f32; 4] = [7.0 / 16.0, 3.0 / 16.0, 5.0 / 16.0, 1.0 / 16.0];
+
+// A kernel's three arrays, side by side. Their lengths differ, so each kernel has a type.
+pub struct AtkinsonKernel {
+    pub dx: [i32; 6],
+    pub dy: [u32; 6],
+    pub ratio: [f32; 6],
+}
+
+pub struct FloydSteinbergKernel {
+    pub dx: [i32; 4],
+    pub dy: [u32; 4],
+    pub ratio: [f32; 4],
+}
+
+// ATKINSON_KERNEL of the source.
+pub fn atkinson_kernel() -> AtkinsonKernel
+    ensures { λ r. ⌜ Arrays atkinson (r .dx) (r .dy) (r .ratio) ⌝ }
+{
+    AtkinsonKernel {
+        dx: ATKINSON_DX,
+        dy: ATKINSON_DY,
+        ratio: ATKINSON_RATIO,
+    }
+}
+
+// FLOYD_STEINBERG_KERNEL of the source.
+pub fn floyd_steinberg_kernel() -> FloydSteinbergKernel
+    ensures { λ r. ⌜ Arrays floydSteinberg (r .dx) (r .dy) (r .ratio) ⌝ }
+{
+    FloydSteinbergKernel {
+        dx: FLOYD_STEINBERG_DX,
+        dy: FLOYD_STEINBERG_DY,
+        ratio: FLOYD_STEINBERG_RATIO,
+    }
+}
