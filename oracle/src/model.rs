@@ -1,0 +1,408 @@
+//! An independent model of the dithering, written from document 01 and sharing
+//! no code with the original: matrices from their rule, `lerp` from whole
+//! numbers, diffusion in whole sixteenths that gathers where the original
+//! scatters, tiles judged after all pixels are chosen.
+
+use quantette::remembered as to_oklab;
+
+use crate::hooks::Tables;
+use crate::original::{Lab, Rgba, Settings};
+
+pub const OFF: u32 = 0;
+pub const ATKINSON: u32 = 9;
+pub const FLOYD_STEINBERG: u32 = 10;
+
+pub fn is_diffusion(kind: u32) -> bool {
+    kind == ATKINSON || kind == FLOYD_STEINBERG
+}
+
+// Colours.
+
+/// A candidate.
+#[derive(Debug, Clone, Copy, PartialEq)]
+pub struct Entry {
+    pub reduced: Rgba,
+    pub normalized: Rgba,
+    pub oklab: Lab,
+}
+
+pub fn rgb([r, g, b, _]: Rgba) -> [u8; 3] {
+    [r, g, b]
+}
+
+/// A colour's Oklab by document 01's conversion.
+pub fn oklab_of([r, g, b]: [u8; 3]) -> Lab {
+    to_oklab(r, g, b)
+}
+
+/// None where the pixel is transparent.
+pub fn reduce(tables: &Tables, pixel: Rgba) -> Option<Rgba> {
+    let [r, g, b] = rgb(pixel).map(|v| tables.reduction[usize::from(v)]);
+    (pixel[3] >= 128).then_some([r, g, b, 255])
+}
+
+pub fn normalize(tables: &Tables, color: Rgba) -> Rgba {
+    color.map(|v| tables.scale[usize::from(v)])
+}
+
+pub fn entry(tables: &Tables, reduced: Rgba) -> Entry {
+    let normalized = normalize(tables, reduced);
+    Entry { reduced, normalized, oklab: oklab_of(rgb(normalized)) }
+}
+
+pub fn distance(p: Lab, q: Lab) -> f32 {
+    let [l, a, b] = [p[0] - q[0], p[1] - q[1], p[2] - q[2]];
+    l * l + 2.15 * (a * a + b * b)
+}
+
+// Thresholds.
+
+/// Bayer's matrices by their rule: the lowest bits of the position weigh most.
+/// `base` is the 2x2 pattern at every level.
+fn bayer(base: [[u32; 2]; 2], levels: u32, x: u32, y: u32) -> u32 {
+    (0..levels).map(|k| base[(y >> k & 1) as usize][(x >> k & 1) as usize] << (2 * (levels - 1 - k))).sum()
+}
+
+/// None for kinds that have no matrix.
+pub fn threshold(kind: u32, x: u32, y: u32) -> Option<f32> {
+    let small = [[0, 2], [3, 1]];
+    let (column, row) = (x & 1, y & 1);
+    let (place, n) = match kind {
+        1 => (bayer(small, 1, x, y), 4),
+        2 => (bayer(small, 2, x, y), 16),
+        // The 8x8 matrix continues another pattern, turned over the diagonal.
+        3 => (bayer([[0, 3], [2, 1]], 3, x, y), 64),
+        4 => (column ^ row, 2),
+        5 => ([3, 0, 2, 1][(2 * row + column) as usize], 4),
+        6 => ([3, 2, 0, 1][(2 * row + column) as usize], 4),
+        7 => (1 - column, 2),
+        8 => (1 - row, 2),
+        _ => return None,
+    };
+    // Twice the place plus one is whole, and n is a power of two.
+    Some((2 * place + 1) as f32 / (2 * n) as f32)
+}
+
+// Mixing.
+
+/// max * shift / 16, halves up, from 1 to 16.
+pub fn bracket_width(shift: u32, max: u64) -> u64 {
+    ((u128::from(max) * u128::from(shift) + 8) / 16).clamp(1, 16) as u64
+}
+
+/// The whole numbers whose quotient `lerp` is: numerator, denominator, and
+/// whether a zero numerator carries a minus sign.
+fn lerp_parts(c1: [u8; 3], c2: [u8; 3], color: [u8; 3]) -> (i32, i32, bool) {
+    let along = |k: usize| i32::from(c2[k]) - i32::from(c1[k]);
+    let to = |k: usize| i32::from(color[k]) - i32::from(c1[k]);
+    let numerator = (0..3).map(|k| to(k) * along(k)).sum();
+    let denominator = (0..3).map(|k| along(k) * along(k)).sum();
+    // A sum of zeros is minus zero only if each of them is, and a zero product
+    // is minus zero if one factor is negative.
+    let minus = (0..3).all(|k| to(k) * along(k) == 0 && (to(k) < 0 || along(k) < 0));
+    (numerator, denominator, minus)
+}
+
+pub fn lerp(c1: [u8; 3], c2: [u8; 3], color: [u8; 3], clamp: bool) -> f32 {
+    let (numerator, denominator, minus) = lerp_parts(c1, c2, color);
+    match numerator {
+        _ if denominator == 0 => 0.0,
+        0 if minus => -0.0,
+        n if clamp && n < 0 => 0.0,
+        n if clamp && n > denominator => 1.0,
+        n => n as f32 / denominator as f32,
+    }
+}
+
+pub fn mix_residual(a: [u8; 3], b: [u8; 3], t: f32, color: [u8; 3]) -> f32 {
+    let squares: [f32; 3] = std::array::from_fn(|k| {
+        let (from, to) = (f32::from(a[k]), f32::from(b[k]));
+        let off = f32::from(color[k]) - (from + t * (to - from));
+        off * off
+    });
+    squares[0] + squares[1] + squares[2]
+}
+
+// Lookups.
+
+/// The first position of the least value.
+fn first_of_least(values: impl Iterator<Item = f32>) -> Option<usize> {
+    let values: Vec<f32> = values.collect();
+    (0..values.len()).find(|&i| values.iter().all(|&v| values[i] <= v))
+}
+
+pub fn nearest(list: &[Entry], color: [u8; 3]) -> usize {
+    let target = oklab_of(color);
+    // Like `first_of_least`, without looking at each pair of a long list.
+    let least = list.iter().map(|e| distance(target, e.oklab)).fold(f32::INFINITY, f32::min);
+    list.iter().position(|e| distance(target, e.oklab) == least).unwrap()
+}
+
+pub fn nearest_two(list: &[Entry], color: [u8; 3], width: u64) -> (usize, Option<usize>) {
+    let a = nearest(list, color);
+    let nearer = |p: &(f32, usize), q: &(f32, usize)| p.partial_cmp(q).unwrap();
+    let others = (0..list.len()).filter(|&i| i != a);
+    let mut others: Vec<(f32, usize)> = others.map(|i| (distance(list[a].oklab, list[i].oklab), i)).collect();
+    let width = (width.clamp(1, 16) as usize).min(others.len());
+    // Only the first few have to be put in order.
+    if width < others.len() {
+        others.select_nth_unstable_by(width, nearer);
+    }
+    others[..width].sort_by(nearer);
+    let shortlist: Vec<usize> = others[..width].iter().map(|&(_, i)| i).collect();
+
+    let ends = |i: usize| (rgb(list[a].normalized), rgb(list[i].normalized));
+    let between: Vec<usize> = shortlist
+        .iter()
+        .copied()
+        .filter(|&i| {
+            let (c1, c2) = ends(i);
+            let (numerator, denominator, _) = lerp_parts(c1, c2, color);
+            (0..=denominator).contains(&numerator)
+        })
+        .collect();
+    let best = first_of_least(between.iter().map(|&i| {
+        let (c1, c2) = ends(i);
+        mix_residual(c1, c2, lerp(c1, c2, color, false), color)
+    }));
+    (a, best.map(|k| between[k]).or(shortlist.first().copied()))
+}
+
+/// Dark, light and the share of light.
+pub fn ordered_bracket(list: &[Entry], color: [u8; 3], width: u64) -> (Rgba, Rgba, f32) {
+    let (a, second) = nearest_two(list, color, width);
+    let a = list[a];
+    let Some(b) = second.map(|i| list[i]) else {
+        return (a.reduced, a.reduced, 0.0);
+    };
+    let t = lerp(rgb(a.normalized), rgb(b.normalized), color, true);
+    if b.oklab[0] >= a.oklab[0] { (a.reduced, b.reduced, t) } else { (b.reduced, a.reduced, 1.0 - t) }
+}
+
+/// None for kinds that have no matrix.
+pub fn pick(dark: Rgba, light: Rgba, ratio: f32, kind: u32, x: u32, y: u32) -> Option<Rgba> {
+    let threshold = threshold(kind, x, y)?;
+    Some(if dark != light && ratio > threshold { light } else { dark })
+}
+
+// Pictures.
+
+/// Targets and sixteenths of a kernel.
+pub fn kernel(kind: u32) -> &'static [(i64, i64, i32)] {
+    match kind {
+        ATKINSON => &[(1, 0, 2), (2, 0, 2), (-1, 1, 2), (0, 1, 2), (1, 1, 2), (0, 2, 2)],
+        FLOYD_STEINBERG => &[(1, 0, 7), (-1, 1, 3), (0, 1, 5), (1, 1, 1)],
+        _ => &[],
+    }
+}
+
+/// What is drawn: the picture, and how.
+#[derive(Clone, Copy)]
+pub struct Picture<'a> {
+    pub kind: u32,
+    pub width: u32,
+    pub height: u32,
+    pub origin: [u32; 2],
+    pub zero: Option<Rgba>,
+    pub tables: &'a Tables,
+    pub pixels: &'a [u8],
+    pub candidates: &'a [Entry],
+    pub bracket_width: u64,
+}
+
+/// One pixel as drawn. Cells are sixteenths.
+#[derive(Debug, Clone, Copy, Default)]
+pub struct Pixel {
+    /// The chosen reduced colour; none where the pixel is transparent.
+    pub chosen: Option<Rgba>,
+    /// Whether the choice was by dithering.
+    pub dithered: bool,
+    pub source: [u8; 3],
+    pub cell: [i32; 3],
+    pub biased: [u8; 3],
+    /// Biased less the normalised choice.
+    pub residual: [i32; 3],
+}
+
+/// Sixteenths to the nearest whole, halves away from zero, within a byte.
+pub fn rounded(sixteenths: i32) -> u8 {
+    let size = (sixteenths.abs() + 8) / 16;
+    (sixteenths.signum() * size).clamp(0, 255) as u8
+}
+
+impl Picture<'_> {
+    fn pixel(&self, i: usize) -> Rgba {
+        self.pixels[4 * i..4 * i + 4].try_into().unwrap()
+    }
+
+    fn place(&self, i: usize) -> (i64, i64) {
+        let width = self.width as usize;
+        ((i % width) as i64, (i / width) as i64)
+    }
+
+    /// The pixel at a place, if there is one.
+    pub fn at(&self, x: i64, y: i64) -> Option<usize> {
+        let inside = x >= 0 && y >= 0 && x < i64::from(self.width) && y < i64::from(self.height);
+        inside.then(|| (y * i64::from(self.width) + x) as usize)
+    }
+
+    /// Where pixel `i` sends, with the weight; none outside the picture.
+    pub fn sends(&self, i: usize) -> impl Iterator<Item = (Option<usize>, i32)> + '_ {
+        let (x, y) = self.place(i);
+        kernel(self.kind).iter().map(move |&(dx, dy, weight)| (self.at(x + dx, y + dy), weight))
+    }
+
+    /// What earlier dithered pixels send to pixel `i`, gathered.
+    fn cell(&self, drawn: &[Pixel], i: usize) -> [i32; 3] {
+        let (x, y) = self.place(i);
+        let mut cell = [0; 3];
+        for &(dx, dy, weight) in kernel(self.kind) {
+            let Some(j) = self.at(x - dx, y - dy).filter(|&j| drawn[j].dithered) else {
+                continue;
+            };
+            for (c, r) in cell.iter_mut().zip(drawn[j].residual) {
+                *c += weight * r;
+            }
+        }
+        cell
+    }
+
+    fn choose(&self, i: usize, color: [u8; 3]) -> Entry {
+        if self.kind == OFF || is_diffusion(self.kind) {
+            return self.candidates[nearest(self.candidates, color)];
+        }
+        let (x, y) = self.place(i);
+        let (dark, light, ratio) = ordered_bracket(self.candidates, color, self.bracket_width);
+        let [x, y] = [self.origin[0] + x as u32, self.origin[1] + y as u32];
+        entry(self.tables, pick(dark, light, ratio, self.kind, x, y).unwrap())
+    }
+
+    fn draw_pixel(&self, drawn: &[Pixel], i: usize) -> Pixel {
+        let pixel = self.pixel(i);
+        let (source, cell) = (rgb(pixel), self.cell(drawn, i));
+        let chosen = reduce(self.tables, pixel);
+        let kept = Pixel { chosen, source, cell, ..Pixel::default() };
+        let Some(reduced) = chosen else {
+            return kept;
+        };
+        if self.zero.is_some_and(|zero| rgb(zero) == rgb(reduced)) {
+            return kept;
+        }
+        let biased = std::array::from_fn(|k| rounded(16 * i32::from(source[k]) + cell[k]));
+        let choice = self.choose(i, biased);
+        let residual = std::array::from_fn(|k| i32::from(biased[k]) - i32::from(choice.normalized[k]));
+        Pixel { chosen: Some(choice.reduced), dithered: true, biased, residual, ..kept }
+    }
+
+    /// All pixels, row by row, left to right.
+    pub fn draw(&self) -> Vec<Pixel> {
+        let mut drawn = Vec::new();
+        for i in 0..self.width as usize * self.height as usize {
+            let pixel = self.draw_pixel(&drawn, i);
+            drawn.push(pixel);
+        }
+        drawn
+    }
+}
+
+/// The cells as a lent buffer holds them: none for kinds that do not diffuse.
+pub fn cell_floats(kind: u32, drawn: &[Pixel]) -> Vec<f32> {
+    if !is_diffusion(kind) {
+        return Vec::new();
+    }
+    drawn.iter().flat_map(|p| p.cell).map(|c| c as f32 / 16.0).collect()
+}
+
+/// Normalised choices, transparent ones zero.
+fn out_bytes(tables: &Tables, drawn: &[Pixel]) -> Vec<u8> {
+    drawn.iter().flat_map(|p| p.chosen.map_or([0; 4], |c| normalize(tables, c))).collect()
+}
+
+/// The distinct reduced colours that are not transparent, ascending.
+pub fn candidate_colors_in(tables: &Tables, pixels: &[u8]) -> Vec<Entry> {
+    let reduced = pixels.chunks_exact(4).filter_map(|p| reduce(tables, p.try_into().unwrap()));
+    let distinct: std::collections::BTreeSet<Rgba> = reduced.collect();
+    distinct.into_iter().map(|c| entry(tables, c)).collect()
+}
+
+pub struct Quantized {
+    pub indices: Vec<u8>,
+    pub out: Vec<u8>,
+    pub cells: Vec<f32>,
+    pub drawn: Vec<Pixel>,
+}
+
+pub fn quantize_pixels(
+    shift: u32,
+    kind: u32,
+    size: [u32; 2],
+    tables: &Tables,
+    palette: &[u8],
+    pixels: &[u8],
+) -> Quantized {
+    let palette: Vec<Rgba> = palette.chunks_exact(4).map(|c| c.try_into().unwrap()).collect();
+    let candidates: Vec<Entry> = palette.iter().map(|&c| entry(tables, c)).collect();
+    let [width, height] = size;
+    let bracket_width = bracket_width(shift, palette.len() as u64);
+    let picture = Picture {
+        kind,
+        width,
+        height,
+        origin: [0, 0],
+        zero: None,
+        tables,
+        pixels,
+        candidates: &candidates,
+        bracket_width,
+    };
+    let drawn = picture.draw();
+    let index = |p: &Pixel| p.chosen.map_or(0, |c| palette.iter().position(|&e| e == c).unwrap() as u8);
+    Quantized {
+        indices: drawn.iter().map(index).collect(),
+        out: out_bytes(tables, &drawn),
+        cells: cell_floats(kind, &drawn),
+        drawn,
+    }
+}
+
+/// How many different chosen colours the non-transparent pixels of each tile
+/// have, row by row.
+pub fn tile_counts(size: [u32; 2], tile: [u32; 2], drawn: &[Pixel]) -> Vec<usize> {
+    let across = size[0].div_ceil(tile[0]) as usize;
+    let down = size[1].div_ceil(tile[1]) as usize;
+    let mut colors = vec![std::collections::BTreeSet::new(); across * down];
+    for (i, pixel) in drawn.iter().enumerate() {
+        let (x, y) = (i as u32 % size[0], i as u32 / size[0]);
+        if let Some(chosen) = pixel.chosen {
+            colors[(y / tile[1]) as usize * across + (x / tile[0]) as usize].insert(chosen);
+        }
+    }
+    colors.iter().map(|set| set.len()).collect()
+}
+
+pub struct Dithered {
+    pub candidates: Vec<Entry>,
+    /// The first tile over its limit.
+    pub tile: Option<usize>,
+    pub out: Vec<u8>,
+    pub cells: Vec<f32>,
+    pub drawn: Vec<Pixel>,
+    pub most_colors: usize,
+}
+
+pub fn dither_to_mode(shift: u32, settings: &Settings, tables: &Tables, pixels: &[u8]) -> Dithered {
+    let candidates = candidate_colors_in(tables, pixels);
+    let Settings { kind, width, height, origin, tile, limit, zero } = *settings;
+    let bracket_width = bracket_width(shift, u64::from(limit));
+    let picture = Picture { kind, width, height, origin, zero, tables, pixels, candidates: &candidates, bracket_width };
+    let drawn = picture.draw();
+    let counts = tile_counts([width, height], tile, &drawn);
+    Dithered {
+        tile: counts.iter().position(|&n| n > limit as usize),
+        most_colors: counts.iter().copied().max().unwrap_or(0),
+        out: out_bytes(tables, &drawn),
+        cells: cell_floats(kind, &drawn),
+        drawn,
+        candidates,
+    }
+}

@@ -1,0 +1,137 @@
+//! The list of the original's answers that the repository replays: which cases
+//! it has, and how they are written.
+
+use crate::case::{Call, Case, LentTables};
+use crate::examples;
+use crate::generate::{Style, case_with};
+use crate::hooks::Tables;
+use crate::original::own_tables;
+use crate::reference::expected;
+use crate::rng::Rng;
+use crate::text::{line, tables_line};
+
+/// How many cases of each expected number a group takes, and whether as many
+/// are taken of each kind.
+struct Quota {
+    number: u32,
+    count: usize,
+    each_kind: bool,
+}
+
+fn quotas(call: Call) -> Vec<Quota> {
+    let plain = |counts: &[(u32, usize)]| -> Vec<Quota> {
+        counts.iter().map(|&(number, count)| Quota { number, count, each_kind: false }).collect()
+    };
+    let with_kinds = |counts: &[(u32, usize)], kinds: &[u32]| {
+        let mut quotas = plain(counts);
+        quotas.extend(kinds.iter().map(|&number| Quota { number, count: 1, each_kind: true }));
+        quotas
+    };
+    match call {
+        Call::ToOklab => plain(&[(0, 96)]),
+        Call::OklabSqdist => plain(&[(0, 60), (6, 30)]),
+        Call::OrderedThreshold => plain(&[(0, 64), (1, 6), (9, 9)]),
+        Call::BracketWidth => plain(&[(0, 48), (1, 12)]),
+        Call::Lerp => plain(&[(0, 96)]),
+        Call::Nearest => plain(&[(0, 40), (3, 8), (4, 2), (6, 8)]),
+        Call::NearestTwo => plain(&[(0, 40), (3, 6), (4, 2), (6, 6)]),
+        Call::OrderedBracket => plain(&[(0, 40), (3, 6), (4, 2), (6, 6)]),
+        Call::Pick => plain(&[(0, 48), (1, 6), (9, 9)]),
+        // These are taken for each of the tables.
+        Call::CandidateColorsIn => plain(&[(0, 5), (1, 1), (2, 1), (3, 2), (7, 2)]),
+        Call::QuantizePixels => with_kinds(&[(1, 1), (2, 1), (3, 3), (4, 1)], &[0]),
+        Call::DitherToMode => with_kinds(&[(1, 1), (2, 2), (3, 3), (5, 2), (7, 2)], &[0, 8]),
+    }
+}
+
+/// The kind of a picture's case.
+fn kind_of(case: &Case) -> u32 {
+    match case {
+        Case::QuantizePixels(c) => c.kind,
+        Case::DitherToMode(c) => c.kind,
+        _ => 0,
+    }
+}
+
+/// Cases until every quota is full.
+fn sample(call: Call, seed: u64, fixed: Option<(u32, &Tables)>) -> Vec<Case> {
+    let mut wanted: Vec<(u32, Option<u32>, usize)> = Vec::new();
+    for Quota { number, count, each_kind } in quotas(call) {
+        if each_kind {
+            wanted.extend((0..11).map(|kind| (number, Some(kind), count)));
+        } else {
+            wanted.push((number, None, count));
+        }
+    }
+    let mut taken = Vec::new();
+    for turn in 0.. {
+        assert!(turn < 100_000, "no case of {} for {wanted:?}", call.name());
+        let case = case_with(call, seed, turn, Style::RECORDER, fixed);
+        let number = expected(&case).number();
+        let fits = |w: &&mut (u32, Option<u32>, usize)| w.0 == number && w.1.is_none_or(|k| k == kind_of(&case));
+        if let Some(quota) = wanted.iter_mut().find(fits) {
+            quota.2 -= 1;
+            taken.push(case);
+        }
+        wanted.retain(|w| w.2 > 0);
+        if wanted.is_empty() {
+            break;
+        }
+    }
+    taken
+}
+
+/// The tables that pictures are recorded with.
+fn table_sets(seed: u64) -> Vec<(u32, Tables)> {
+    let mut rng = Rng::new(seed);
+    let arbitrary =
+        Tables { reduction: std::array::from_fn(|_| rng.byte()), scale: std::array::from_fn(|_| rng.byte()) };
+    vec![(3, own_tables(3, false)), (4, own_tables(4, true)), (5, own_tables(5, false)), (3, arbitrary)]
+}
+
+fn has_tables(call: Call) -> bool {
+    matches!(call, Call::CandidateColorsIn | Call::QuantizePixels | Call::DitherToMode)
+}
+
+/// The cases of a call's group.
+fn cases_of(call: Call, seed: u64) -> Vec<Case> {
+    if !has_tables(call) {
+        return sample(call, seed, None);
+    }
+    let sets = table_sets(seed);
+    let turns = sets.iter().zip(1..);
+    turns.flat_map(|((shift, tables), turn)| sample(call, seed + turn, Some((*shift, tables)))).collect()
+}
+
+/// One group: its name and its cases, with a line wherever the tables change.
+fn group(name: &str, cases: &[Case]) -> String {
+    let mut text = format!("g {name}\n");
+    let mut current: Option<&LentTables> = None;
+    for case in cases {
+        let same = |t: &LentTables| current.is_some_and(|c| c.reduction == t.reduction && c.scale == t.scale);
+        if let Some(tables) = case.tables().filter(|t| !same(t)) {
+            text += &tables_line(tables);
+            text.push('\n');
+            current = Some(tables);
+        }
+        text += &line(case, &expected(case));
+        text.push('\n');
+    }
+    text
+}
+
+/// The whole list for these calls.
+pub fn list(calls: &[Call], seed: u64, command: &str) -> String {
+    let mut text = format!(
+        "# The original's answers, recorded to be replayed. Made in the folder oracle by:\n# {command}\n# seed {seed}\n"
+    );
+    for &call in calls {
+        text += &group(call.name(), &cases_of(call, seed));
+        match call {
+            Call::QuantizePixels => text += &group("quantize_pixels_examples", &examples::of_quantize()),
+            Call::DitherToMode => text += &group("dither_to_mode_examples", &examples::of_to_mode()),
+            _ => {}
+        }
+    }
+    text
+}
