@@ -1,0 +1,8 @@
+-- The laws of `conversion`.
+pub mod Table
+pub mod LinearLaws
+pub mod RootLaws
+pub mod NearestLaws
+pub mod OklabLaws
+pub mod Bits
+pub mod Unique

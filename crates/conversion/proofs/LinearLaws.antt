@@ -1,0 +1,45 @@
+-- The table of linear values: the rule holds at each of its 256 entries, by one computed test; the rule determines the value; and no value
+-- exceeds 10^8. Assumes nothing.
+use mathlib.Core.Path.{_≡_}
+use mathlib.Core.Bool.{Bool, true, false, cond}
+use Prim.Native.Nat.{ℕ, _+_, _-_, _*_, _^_, _≤_, _<_}
+use native.Mathlib.Nat.{le-antisymm, lt-of-not-le, mul-le-mul-left, pow-le-pow-left}
+use native.Mathlib.Omega.{arith}
+use lib.Dec.{T, ltb, leb, ltb→lt, leb→le}
+use lib.Ieee.Fits.{and-l, and-r}
+use Rattle.conversion.specs.Linear.{isNearest, isLinear, values, linearOf}
+use Rattle.conversion.proofs.Table.{at}
+
+-- ---- the rule at every entry
+pub rule : (k : ℕ) → k < 256 → T (isLinear k (linearOf k))
+unfolding isLinear isNearest linearOf
+rule k h = at isLinear values tt k h
+
+pub small : (k : ℕ) → k < 256 → linearOf k ≤ 100000000
+unfolding linearOf
+small k h = leb→le (linearOf k) 100000000 (at (λ i x. leb x 100000000) values tt k h)
+
+pub value-small : (k x : ℕ) → x ≡ linearOf k → k < 256 → x ≤ 100000000
+value-small k x e h = rw e (small k h)
+
+-- ---- one value alone: of two nearest numbers neither is above the other
+nearest-le : (e d x t u : ℕ) → T (isNearest e d x t) → T (isNearest e d x u) → t ≤ u
+unfolding isNearest
+nearest-le e d x t u p q =
+    let a = d * (2 * t - 1) ^ e in
+    let b = d * (2 * u + 1) ^ e in
+    let A = leb→le a x (and-l (leb a x) (ltb x (d * (2 * t + 1) ^ e)) p) in
+    let B = ltb→lt x b (and-r (leb (d * (2 * u - 1) ^ e) x) (ltb x b) q) in
+    let h : 2 * t - 1 < 2 * u + 1 = lt-of-not-le (λ k. let z = mul-le-mul-left d (pow-le-pow-left k e) in omega arith) in
+    omega arith
+
+pub only-one : (k t u : ℕ) → T (isLinear k t) → T (isLinear k u) → t ≡ u
+unfolding isLinear
+only-one k t u = go (leb k 10) _ _ _ _ _ _
+  where
+    nearest-one : (e d x : ℕ) → T (isNearest e d x t) → T (isNearest e d x u) → t ≡ u
+    nearest-one e d x p q = le-antisymm (nearest-le e d x t u p q) (nearest-le e d x u t q p)
+
+    go : (c : Bool) (e d x e' d' x' : ℕ) → T (cond c (isNearest e d x t) (isNearest e' d' x' t)) → T (cond c (isNearest e d x u) (isNearest e' d' x' u)) → t ≡ u
+    go true e d x e' d' x' = nearest-one e d x
+    go false e d x e' d' x' = nearest-one e' d' x'

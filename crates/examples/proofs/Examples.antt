@@ -1,0 +1,19 @@
+-- The worked examples that are marked P hold: in every row of the table the definitions give what the document says. By computation. Assumes nothing.
+use mathlib.Core.Path.{_≡_, refl}
+use mathlib.Core.List.{List, map}
+use lib.Ieee.{round, add, sub, mul, div, eq, lt, ofInt}
+use Rattle.floats.specs.Over.{over}
+use Rattle.floats.specs.Bytes.{byteF, dot}
+use Rattle.mixing.specs.Lerp.{less, along, shareOf, clampOf, lerpOf}
+use Rattle.mixing.specs.Widths.{isShift, widthOf, bracketWidthOf}
+use Rattle.patterns.specs.Kinds.{kindOf, wayOf}
+use Rattle.patterns.specs.Thresholds.{share, thresholdOf}
+use Rattle.conversion.specs.Linear.{linearOf}
+use Rattle.conversion.specs.Root.{digits, rootOf}
+use Rattle.conversion.specs.Nearest.{nearest}
+use Rattle.conversion.specs.Oklab.{lightnessOf, aOf, bOf}
+use Rattle.examples.specs.Table.{Value, Row, table}
+
+pub examples : map (λ (r : Row). r .given) table ≡ map (λ (r : Row). r .said) table
+unfolding round add sub mul div eq lt ofInt over byteF dot less along shareOf clampOf lerpOf isShift widthOf bracketWidthOf kindOf wayOf share thresholdOf linearOf digits rootOf nearest lightnessOf aOf bOf
+examples = refl

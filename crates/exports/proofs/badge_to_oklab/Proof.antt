@@ -1,0 +1,24 @@
+-- `exports::badge_to_oklab` meets its contract: what `to_oklab` answers, component by component. Assumes nothing.
+use mathlib.Core.Path.{_≡_, _∙_, ap}
+use Rattle.color.specs.declared.Oklab.{Oklab}
+use Rattle.color.specs.declared.Rgba8888.{Rgba8888}
+use Rattle.conversion.specs.Oklab.{toOklab}
+use Rattle.exports.specs.Answers.{oklabOfRgb}
+use borrow.Author.Needs.{needs}
+use Rattle.exports.proofs.badge_to_oklab.Statement.{statement}
+use Rattle.exports.proofs.badge_to_oklab.Tie as tie
+
+new-requires : tie.Need-new-requires
+new-requires c κs = search needs
+
+to-oklab-requires : tie.Need-to-oklab-requires
+to-oklab-requires c κs = search needs
+
+returns : tie.Need-returns
+returns c =
+    let e : c .to-oklab .result ≡ oklabOfRgb (c .before .before .args .r) (c .before .before .args .g) (c .before .before .args .b) =
+    c .to-oklab .ensures ∙ ap (λ (x : Rgba8888). toOklab (record { 0 = x })) (c .before .new .ensures) in
+    (ap (λ (o : Oklab). o .l) e, ap (λ (o : Oklab). o .a) e, ap (λ (o : Oklab). o .b) e)
+
+pub badge-to-oklab-spec : {M : Type 1} → statement M
+badge-to-oklab-spec = tie.close (tie.spec new-requires to-oklab-requires returns)
