@@ -1,9 +1,10 @@
 -- The worked examples of document 01 that are marked P: what the definitions give, and what the document says, row by row. Definitions only.
 -- Written from document 01, "Worked examples". proofs/Examples has the one proof.
 use Prim.Native.Nat.{ℕ}
-use mathlib.Core.Bool.{true, false}
-use mathlib.Core.List.{List, [], _∷_}
-use lib.IntN.{ℤ, pos, negsuc}
+use mathlib.Core.Bool.{Bool, true, false}
+use mathlib.Core.List.{List, [], _∷_, map}
+use lib.IntN.{ℤ, pos, negsuc, _*ℤ_}
+use lib.ListN.{getD}
 use lib.Ieee.{Float, fin}
 use Rattle.color.specs.declared.NormalizedColor.{NormalizedColor}
 use Rattle.color.specs.Color.{rgba}
@@ -18,6 +19,10 @@ use Rattle.patterns.specs.declared.Thresholded.the-variants as thresholded
 use Rattle.patterns.specs.Thresholds.{thresholdOf}
 use Rattle.conversion.specs.Linear.{linearOf}
 use Rattle.conversion.specs.Oklab.{Millionths, millionthsAt}
+use Rattle.patterns.specs.Kernel.{Target, floydSteinberg, atkinson, heldBack}
+use Rattle.diffusion.specs.Biased.{biasedOf}
+use Rattle.diffusion.specs.Diffusion.{Channel, residual, lossOf}
+use Rattle.diffusion.specs.Account.{excess, lost, sent, isOutside, toSkipped, dropped, held}
 
 -- what an example speaks of: a whole number, an f32, or a refusal
 pub data Value : Type 0 where
@@ -70,6 +75,36 @@ equalEnds = float (lerpOf (opaque 10 0 0) (opaque 10 0 0) (opaque 5 200 7) false
 abbrev pub millionthValues : Millionths → List Value
 millionthValues m = whole (m .lightness) ∷ whole (m .a) ∷ whole (m .b) ∷ []
 
+-- the biased byte of a source and a cell, and the loss
+abbrev pub rounded : ℕ → ℤ → List Value
+rounded source cell = natural (biasedOf source cell) ∷ whole (lossOf source cell) ∷ []
+
+-- two pixels in a row with the sources 80 and 0, the first dithered to black, and the second where the flag says so
+abbrev pub pair : Bool → Channel
+pair second =
+    record {
+      width = 2;
+      height = 1;
+      dithered = λ i. getD (true ∷ second ∷ []) i false;
+      source = λ i. getD (80 ∷ 0 ∷ []) i 0;
+      chosen = λ i. 0;
+    }
+
+-- what the pixel i sent past the edges, and what it held back
+abbrev pub fell : List Target → Channel → ℕ → ℤ
+fell k c i = sent isOutside k (c .width) (c .height) i (residual k c i)
+
+abbrev pub kept : List Target → Channel → ℕ → ℤ
+kept k c i = residual k c i *ℤ pos (heldBack k)
+
+-- the account: sixteen times sources less choices; the losses; what reached skipped pixels; what was dropped, and of it each pixel's part; what
+-- was held back, and of it each pixel's part
+abbrev pub account : List Target → Channel → List Value
+account k c = whole (excess c) ∷ whole (lost k c) ∷ whole (toSkipped k c) ∷ whole (dropped k c) ∷ whole (fell k c 0) ∷ whole (fell k c 1) ∷ whole (held k c) ∷ whole (kept k c 0) ∷ whole (kept k c 1) ∷ []
+
+abbrev pub naturals : List ℕ → List Value
+naturals = map natural
+
 abbrev pub table : List Row
 table =
     row 1 (width 3 16 ∷ width 3 8 ∷ width 4 2 ∷ width 3 0 ∷ width 5 256 ∷ []) (natural 3 ∷ natural 2 ∷ natural 1 ∷ natural 1 ∷ natural 16 ∷ [])
@@ -79,4 +114,9 @@ table =
     ∷ row 4 (natural (linearOf 0) ∷ natural (linearOf 1) ∷ natural (linearOf 10) ∷ natural (linearOf 255) ∷ []) (natural 0 ∷ natural 30353 ∷ natural 303527 ∷ natural 100000000 ∷ [])
     ∷ row 5 (millionthValues (millionthsAt (opaque 0 0 0))) (natural 0 ∷ natural 0 ∷ natural 0 ∷ [])
     ∷ row 5 (millionthValues (millionthsAt (opaque 255 255 255))) (natural 999999 ∷ natural 2 ∷ whole (negsuc 0) ∷ [])
+    ∷ row 6 (rounded 10 (pos 8)) (natural 11 ∷ whole (negsuc 7) ∷ [])
+    ∷ row 6 (rounded 250 (pos 320)) (natural 255 ∷ natural 240 ∷ [])
+    ∷ row 7 (account floydSteinberg (pair true)) (naturals (1280 ∷ 0 ∷ 0 ∷ 1280 ∷ 720 ∷ 560 ∷ 0 ∷ 0 ∷ 0 ∷ []))
+    ∷ row 8 (account atkinson (pair true)) (naturals (1280 ∷ 0 ∷ 0 ∷ 920 ∷ 800 ∷ 120 ∷ 360 ∷ 320 ∷ 40 ∷ []))
+    ∷ row 9 (account floydSteinberg (pair false)) (naturals (1280 ∷ 0 ∷ 560 ∷ 720 ∷ 720 ∷ 0 ∷ 0 ∷ 0 ∷ 0 ∷ []))
     ∷ []
