@@ -3,9 +3,16 @@
 use color::Distance;
 use color::NormalizedColor;
 use color::Oklab;
+use mixing::Width;
+use patterns::Thresholded;
 ghost use mathlib.Core.Path.{_≡_};
+ghost use mathlib.Core.Bool.{not};
+ghost use lib.Dec.{eqb};
 ghost use Rattle.color.specs.Oklab.{distanceOf, numberOf};
-ghost use Rattle.exports.specs.Answers.{oklabOfRgb, oklab, squaredAfter};
+ghost use Rattle.patterns.specs.Thresholds.{thresholdOf};
+ghost use Rattle.mixing.specs.Lerp.{lerpOf};
+ghost use Rattle.mixing.specs.Widths.{bracketWidthOf};
+ghost use Rattle.exports.specs.Answers.{normalized, oklabOfRgb, oklab, squaredAfter, thresholdNumber, thresholdAfter, widthNumber, widthAfter};
 
 // The Oklab colour of a colour.
 #[no_mangle]
@@ -56,4 +63,54 @@ pub extern "C" fn badge_oklab_sqdist(
         }
         Distance::Refused(number) => number as u32,
     }
+}
+
+// The threshold of a kind at column x and row y; 1 and 9.
+#[no_mangle]
+pub extern "C" fn badge_ordered_threshold(kind: u32, x: u32, y: u32, threshold: &mut f32) -> u32
+    ensures { λ r. ⌜ (r ≡ thresholdNumber (thresholdOf kind x y)) × (now (threshold .exit) ≡ thresholdAfter (thresholdOf kind x y) (now (threshold .entry))) ⌝ }
+{
+    match patterns::ordered_threshold(kind, x, y) {
+        Thresholded::At(t) => {
+            *threshold = t;
+            0
+        }
+        Thresholded::Refused(number) => number as u32,
+    }
+}
+
+// How many candidates `badge_nearest_two` considers; 1.
+#[no_mangle]
+pub extern "C" fn badge_bracket_width(shift: u32, max: u64, width: &mut u64) -> u32
+    ensures { λ r. ⌜ (r ≡ widthNumber (bracketWidthOf shift max)) × (now (width .exit) ≡ widthAfter (bracketWidthOf shift max) (now (width .entry))) ⌝ }
+{
+    match mixing::bracket_width(shift, max) {
+        Width::Of(w) => {
+            *width = w;
+            0
+        }
+        Width::Refused(number) => number as u32,
+    }
+}
+
+// The share of the second colour in the mix of two that comes nearest to a third, clamped to 0..1 where the flag is not 0.
+#[no_mangle]
+pub extern "C" fn badge_lerp(
+    r1: u8,
+    g1: u8,
+    b1: u8,
+    r2: u8,
+    g2: u8,
+    b2: u8,
+    r: u8,
+    g: u8,
+    b: u8,
+    clamp: u32,
+) -> f32
+    ensures { λ t. ⌜ t ≡ lerpOf (normalized r1 g1 b1) (normalized r2 g2 b2) (normalized r g b) (not (eqb clamp 0)) ⌝ }
+{
+    let c1 = NormalizedColor::new(r1, g1, b1, 255);
+    let c2 = NormalizedColor::new(r2, g2, b2, 255);
+    let color = NormalizedColor::new(r, g, b, 255);
+    mixing::lerp(c1, c2, color, clamp != 0)
 }
