@@ -1,0 +1,7 @@
+-- The laws of `lookup`.
+pub mod SecondLaws
+pub mod TwoLaws
+pub mod BracketLaws
+pub mod ListLaws
+pub mod AnswerLaws
+pub mod Unique

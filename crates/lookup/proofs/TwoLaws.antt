@@ -1,0 +1,94 @@
+-- The nearest two: what `nearest_two_positions` answers; both are entries, and the second is another one; with one candidate there is no second,
+-- with more there is. Assumes nothing.
+use mathlib.Core.Path.{_≡_, refl, sym, ap, _∙_, subst}
+use mathlib.Core.List.{List, [], _∷_}
+use mathlib.Core.Bool.{Bool}
+use Prim.Native.Nat.{ℕ, suc, _<_}
+use native.Mathlib.Nat.{not-suc-le-zero}
+use native.Mathlib.Omega.{arith}
+use lib.Dec.{T}
+use lib.ListN.{length, length-take}
+use lib.Ieee.{Float}
+use Rattle.lists.specs.Order.{In}
+use Rattle.color.specs.declared.NormalizedColor.{NormalizedColor}
+use Rattle.color.specs.declared.Oklab.{Oklab}
+use Rattle.color.specs.Oklab.{allInRange}
+use Rattle.mixing.specs.Widths.{clampWidth}
+use Rattle.shortlist.specs.Candidates.{Candidates}
+use Rattle.shortlist.specs.Nearest.{distances, nearestOf}
+use Rattle.shortlist.specs.Shortlist.{ranked, shortlistOf}
+use Rattle.lookup.specs.Second.{those, secondIn, secondOf, mixable, mixError, secondTo, nearestTwoOf}
+use Rattle.lookup.specs.declared.Two.{Two}
+use Rattle.lookup.specs.declared.Second.{Second}
+use Rattle.lookup.specs.declared.Second.the-variants.{At, Nothing}
+use Rattle.shortlist.proofs.NearestLaws.{nearest-inside, distances-plain}
+use Rattle.shortlist.proofs.RankedLaws.{is-ranked, length-ranked}
+use Rattle.shortlist.proofs.ArrayLaws.{clamp-low}
+use Rattle.shortlist.proofs.ShortlistLaws.{in-take}
+use Rattle.lookup.proofs.SecondLaws.{second-in}
+
+module _ (cs : Candidates) (width : ℕ) (o : Oklab) (c : NormalizedColor) where
+  pub two-is : (a : ℕ) (ps : List ℕ) (r : Second) → a ≡ nearestOf cs o → ps ≡ shortlistOf (distances (cs .oklab a) (cs .oklab)) a (cs .count) width
+      → r ≡ secondOf (mixable (cs .normalized) a c) (mixError (cs .normalized) a c) ps → _≡_ {A = Two} (record { first = a; second = r }) (nearestTwoOf cs width o c)
+  unfolding nearestTwoOf
+  two-is a ps r p q e =
+      let s : r ≡ secondTo cs width c (nearestOf cs o) = e ∙ ap (secondOf (mixable (cs .normalized) a c) (mixError (cs .normalized) a c)) q ∙ ap (secondTo cs width c) p in
+      λ i. record { first = p i; second = s i }
+
+  -- ---- with one candidate there is no second, with more there is
+  none : (p : ℕ → Bool) (e : ℕ → Float) (ks : List ℕ) → length ks ≡ 0 → secondOf p e ks ≡ Nothing
+  none p e [] h = refl
+  none p e (k ∷ ks) h = absurd (omega arith)
+
+  some : (p : ℕ → Bool) (e : ℕ → Float) (ks : List ℕ) → 0 < length ks → (b : ℕ) × (secondOf p e ks ≡ At b)
+  some p e [] h = absurd (not-suc-le-zero h)
+  some p e (k ∷ ks) h = go (those p (k ∷ ks))
+    where
+      go : (qs : List ℕ) → (b : ℕ) × (secondIn e qs (k ∷ ks) ≡ At b)
+      go [] = (k, refl)
+      go (q ∷ qs) = (_, refl)
+
+  module _ (positive : 0 < cs .count) where
+    abbrev a : ℕ
+    a = nearestOf cs o
+
+    pub first-inside : nearestTwoOf cs width o c .first < cs .count
+    unfolding nearestTwoOf
+    first-inside = nearest-inside (cs .oklab) (cs .count) o positive
+
+    size : suc (length (ranked (distances (cs .oklab a) (cs .oklab)) a (cs .count))) ≡ cs .count
+    size = length-ranked (distances (cs .oklab a) (cs .oklab)) a (cs .count) (nearest-inside (cs .oklab) (cs .count) o positive)
+
+    abbrev short : List ℕ
+    short = shortlistOf (distances (cs .oklab a) (cs .oklab)) a (cs .count) width
+
+    pub one-alone : cs .count ≡ 1 → nearestTwoOf cs width o c .second ≡ Nothing
+    unfolding nearestTwoOf
+    one-alone one = none (mixable (cs .normalized) a c) (mixError (cs .normalized) a c) short (omega (arith, size, length-take (clampWidth width) (ranked (distances (cs .oklab a) (cs .oklab)) a (cs .count))))
+
+    pub two-or-more : 1 < cs .count → (b : ℕ) × (nearestTwoOf cs width o c .second ≡ At b)
+    unfolding nearestTwoOf
+    two-or-more more = some (mixable (cs .normalized) a c) (mixError (cs .normalized) a c) short (omega (arith, size, clamp-low width, length-take (clampWidth width) (ranked (distances (cs .oklab a) (cs .oklab)) a (cs .count))))
+
+    module _ (range : (k : ℕ) → k < cs .count → T (allInRange (cs .oklab k))) where
+      other : (b : ℕ) → nearestTwoOf cs width o c .second ≡ At b → (b < cs .count) × (b ≡ a → ⊥)
+      unfolding nearestTwoOf
+      other b e =
+          let d = distances (cs .oklab a) (cs .oklab) in
+          let i : In b short = second-in (mixable (cs .normalized) a c) (mixError (cs .normalized) a c) short b e in
+          is-ranked d a (cs .count) (distances-plain (cs .oklab) (cs .count) range (cs .oklab a) (range a (nearest-inside (cs .oklab) (cs .count) o positive))) .sound b (in-take (clampWidth width) (ranked d a (cs .count)) b i)
+
+      pub second-inside : (b : ℕ) → nearestTwoOf cs width o c .second ≡ At b → b < cs .count
+      second-inside b e = other b e .0
+
+      pub second-other : (b : ℕ) → nearestTwoOf cs width o c .second ≡ At b → b ≡ nearestTwoOf cs width o c .first → ⊥
+      unfolding nearestTwoOf
+      second-other b e = other b e .1
+
+-- ---- the same of an answer that is equal to it
+module _ (cs : Candidates) (width : ℕ) (o : Oklab) (c : NormalizedColor) (two : Two) (e : two ≡ nearestTwoOf cs width o c) (positive : 0 < cs .count) where
+  pub first-entry : two .first < cs .count
+  first-entry = subst (λ (t : Two). t .first < cs .count) (sym e) (first-inside cs width o c positive)
+
+  pub second-entry : ((k : ℕ) → k < cs .count → T (allInRange (cs .oklab k))) → (b : ℕ) → two .second ≡ At b → b < cs .count
+  second-entry range b s = second-inside cs width o c positive range b (ap (λ (t : Two). t .second) (sym e) ∙ s)

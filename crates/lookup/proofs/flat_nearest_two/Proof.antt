@@ -1,0 +1,33 @@
+-- `flat_nearest_two` meets its contract: the refusal, or the nearest two. Assumes nothing.
+use mathlib.Core.Path.{sym, _∙_}
+use Rattle.lookup.proofs.AnswerLaws.{two-refused, two-accepted}
+use borrow.Author.Needs.{needs}
+use Rattle.lookup.proofs.flat_nearest_two.Statement.{statement}
+use Rattle.lookup.proofs.flat_nearest_two.Tie as tie
+
+list-refusal-requires : tie.Need-list-refusal-requires
+list-refusal-requires c κs = search needs
+
+returns : tie.Need-returns
+returns c =
+    let a = c .before .before .before .before .before .args in
+    let n = c .before .list-refusal in
+    two-refused (a .reduced .now) (a .normalized .now) (a .oklab .now) (a .color) (n .result) (n .ensures) (a .width) (c .if1 .taken)
+
+to-oklab-requires : tie.Need-to-oklab-requires
+to-oklab-requires c κs = search needs
+
+two-of-requires : tie.Need-two-of-requires
+two-of-requires c κs = sym (c .before .before .list-refusal .ensures) ∙ c .before .if1 .left
+
+returns-2 : tie.Need-returns-2
+returns-2 c =
+    let a = c .before .before .before .before .before .before .before .args in
+    let n = c .before .before .before .list-refusal in
+    let o = c .before .to-oklab in
+    let r = c .two-of in
+    two-accepted (a .reduced .now) (a .normalized .now) (a .oklab .now) (a .color) (n .result) (n .ensures) (a .width) (c .before .before .if1 .left) (o .result) (r .result) (o .ensures) (r .ensures)
+
+pub flat-nearest-two-spec : {M : Type 1} → statement M
+flat-nearest-two-spec =
+    tie.close (tie.spec list-refusal-requires returns to-oklab-requires two-of-requires returns-2)

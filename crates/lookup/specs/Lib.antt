@@ -1,0 +1,5 @@
+-- The definitions of `lookup`: the second, the bracket and what is picked of it, and the answers of the flat calls.
+pub mod Second
+pub mod Bracket
+pub mod Lists
+pub mod Answers

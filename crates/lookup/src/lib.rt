@@ -1,0 +1,169 @@
+// Choosing colours: the nearest candidate, the nearest two, the ordered bracket and what is picked of it, over flat lists.
+// Names and order are those of src/dither.rs; the functions of the modules answer positions.
+pub mod brackets;
+pub mod checks;
+pub mod flat;
+pub mod seconds;
+
+use checks::list_refusal;
+use color::NormalizedColor;
+use color::ReducedColor;
+use color::same_reduced;
+use conversion::to_oklab;
+use flat::bracket_of;
+use flat::two_of;
+use patterns::Thresholded;
+use patterns::ordered_threshold;
+use shortlist::near::nearest_position;
+ghost use mathlib.Core.Path.{_≡_};
+ghost use Rattle.lookup.specs.Bracket.{solidAt, pickAt, pickOf};
+ghost use Rattle.lookup.specs.Answers.{nearestAnswer, nearestTwoAnswer, bracketAnswer};
+
+// ---- what the lookups answer
+
+// The second candidate, if there is one.
+pub enum Second {
+    At(usize),
+    Nothing,
+}
+
+// The nearest candidate and the second, by position.
+pub struct Two {
+    pub first: usize,
+    pub second: Second,
+}
+
+// The best mix so far: nothing yet, or a position with its error.
+pub struct Best {
+    pub found: bool,
+    pub position: usize,
+    pub error: f32,
+}
+
+// A bracket by positions.
+pub struct BracketAt {
+    pub dark: usize,
+    pub light: usize,
+    pub ratio: f32,
+}
+
+impl BracketAt {
+    // One entry alone.
+    pub fn solid(a: usize) -> Self
+        ensures { λ r. ⌜ r ≡ solidAt a ⌝ }
+    {
+        BracketAt {
+            dark: a,
+            light: a,
+            ratio: 0.0,
+        }
+    }
+}
+
+// The two colours an ordered dither alternates between for one source colour, and the share of `light` in the mix.
+pub struct Bracket {
+    pub dark: ReducedColor,
+    pub light: ReducedColor,
+    pub ratio: f32,
+}
+
+// What `pick` answers.
+pub enum Picked {
+    Color(ReducedColor),
+    Refused(u8),
+}
+
+// What `flat_nearest` answers.
+pub enum Found {
+    At(usize),
+    Refused(u8),
+}
+
+// What `flat_nearest_two` answers.
+pub enum FoundTwo {
+    At(Two),
+    Refused(u8),
+}
+
+// What `flat_ordered_bracket` answers.
+pub enum FoundBracket {
+    Of(Bracket),
+    Refused(u8),
+}
+
+// ---- pick
+
+// Light, if the two colours differ and its ratio exceeds the threshold; else dark.
+pub fn pick_at(bracket: Bracket, threshold: f32) -> ReducedColor
+    ensures { λ r. ⌜ r ≡ pickAt bracket threshold ⌝ }
+{
+    let dark = bracket.dark;
+    let light = bracket.light;
+    if !same_reduced(dark, light) & (bracket.ratio > threshold) {
+        return light;
+    }
+    dark
+}
+
+// The colour for column x and row y; 1 for a kind above 10, 9 for one that has no matrix, also where the colours are equal.
+pub fn pick(bracket: Bracket, kind: u32, x: u32, y: u32) -> Picked
+    ensures { λ r. ⌜ r ≡ pickOf bracket kind x y ⌝ }
+{
+    match ordered_threshold(kind, x, y) {
+        Thresholded::At(threshold) => Picked::Color(pick_at(bracket, threshold)),
+        Thresholded::Refused(number) => Picked::Refused(number),
+    }
+}
+
+// ---- the lookups over flat lists: reduced and normalised bytes four an entry, Oklab floats three an entry. 3 where the
+// lengths do not fit together, 4 where there is no entry or more than 65,536, 6 where a component is not from -2 to 2.
+
+// The position of the nearest entry.
+pub fn flat_nearest(
+    reduced: &[u8],
+    normalized: &[u8],
+    oklab: &[f32],
+    color: NormalizedColor,
+) -> Found
+    ensures { λ r. ⌜ r ≡ nearestAnswer (now (reduced .entry)) (now (normalized .entry)) (now (oklab .entry)) color ⌝ }
+{
+    let refusal = list_refusal(reduced, normalized, oklab);
+    if refusal != 0 {
+        return Found::Refused(refusal);
+    }
+    Found::At(nearest_position(oklab, reduced.len() / 4, to_oklab(color)))
+}
+
+// The positions of the nearest entry and of the second.
+pub fn flat_nearest_two(
+    reduced: &[u8],
+    normalized: &[u8],
+    oklab: &[f32],
+    color: NormalizedColor,
+    width: u64,
+) -> FoundTwo
+    ensures { λ r. ⌜ r ≡ nearestTwoAnswer (now (reduced .entry)) (now (normalized .entry)) (now (oklab .entry)) color width ⌝ }
+{
+    let refusal = list_refusal(reduced, normalized, oklab);
+    if refusal != 0 {
+        return FoundTwo::Refused(refusal);
+    }
+    FoundTwo::At(two_of(reduced, normalized, oklab, width, to_oklab(color), color))
+}
+
+// The two colours that an ordered dither alternates between, and the share of the lighter.
+pub fn flat_ordered_bracket(
+    reduced: &[u8],
+    normalized: &[u8],
+    oklab: &[f32],
+    color: NormalizedColor,
+    width: u64,
+) -> FoundBracket
+    ensures { λ r. ⌜ r ≡ bracketAnswer (now (reduced .entry)) (now (normalized .entry)) (now (oklab .entry)) color width ⌝ }
+{
+    let refusal = list_refusal(reduced, normalized, oklab);
+    if refusal != 0 {
+        return FoundBracket::Refused(refusal);
+    }
+    FoundBracket::Of(bracket_of(reduced, normalized, oklab, width, to_oklab(color), color))
+}

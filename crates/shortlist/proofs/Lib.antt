@@ -1,0 +1,7 @@
+-- The laws of `shortlist`.
+pub mod NearestLaws
+mod PlaceLaws
+mod InsertLaws
+pub mod RankedLaws
+pub mod ArrayLaws
+pub mod ShortlistLaws
