@@ -1,0 +1,45 @@
+-- `drawing::Ditherer::diffusion_color_at` meets its contract: the nearest to the biased colour, whose residual is passed on. Assumes nothing.
+use Rattle.lists.proofs.Bools.{holds}
+use Rattle.drawing.proofs.StepLaws.{diffused-is}
+use borrow.Author.Needs.{needs}
+use Rattle.drawing.proofs.Ditherer.diffusion_color_at.Statement.{statement}
+use Rattle.drawing.proofs.Ditherer.diffusion_color_at.Tie as tie
+
+biased-color-requires : tie.Need-biased-color-requires
+biased-color-requires c κs = search needs
+
+nearest-color-requires : tie.Need-nearest-color-requires
+nearest-color-requires c κs = search needs
+
+normalize-color-requires : tie.Need-normalize-color-requires
+normalize-color-requires c κs = search needs
+
+column-requires : tie.Need-column-requires
+column-requires c κs = search needs
+
+row-requires : tie.Need-row-requires
+row-requires c κs = search needs
+
+diffuse-residual-requires : tie.Need-diffuse-residual-requires
+diffuse-residual-requires c κs = (holds (c .before .before .before .before .before .before .before .before .before .before .before .pre .3), search needs, search needs)
+
+same-length : tie.Need-same-length
+same-length c = search needs
+
+returns : tie.Need-returns
+returns c = λ zs Z.
+    diffused-is _ _ _ zs _ _ _ _ _ _ _ _ (c .before .before .before .before .before .before .before .before .biased-color .ensures zs Z) (c .before .before .before .before .before .before .before .nearest-color .ensures) (c .before .before .before .before .before .before .normalize-color .ensures) (c .before .before .before .before .before .column .ensures .0) (c .before .before .before .before .row .ensures .0)
+    (c .before .before .diffuse-residual .ensures zs Z)
+
+pub diffusion-color-at-spec : {M : Type 1} → statement M
+diffusion-color-at-spec =
+    tie.close
+    (tie.spec
+    biased-color-requires
+    nearest-color-requires
+    normalize-color-requires
+    column-requires
+    row-requires
+    diffuse-residual-requires
+    same-length
+    returns)

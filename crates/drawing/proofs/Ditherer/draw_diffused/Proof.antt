@@ -1,0 +1,89 @@
+-- `drawing::Ditherer::draw_diffused` meets its contract. The invariant: the first i pixels are in place, and the cells are those of pixel i's turn.
+-- Assumes nothing.
+use Prim.Native.Nat.{_*_, _-_}
+use mathlib.Core.Path.{_≡_, sym, ap, _∙_}
+use native.Mathlib.Omega.{arith}
+use borrow.Author.Needs.{needs}
+use Rattle.lists.proofs.FillLaws.{Filling, fill-begin}
+use Rattle.drawing.specs.Lent.{lent, drawingOf, pixelBytes}
+use Rattle.drawing.specs.Turns.{cellsBefore}
+use Rattle.drawing.proofs.OutputLaws.{out-more, out-all}
+use Rattle.drawing.proofs.TurnLaws.{turn-begin, turn-length}
+use Rattle.drawing.proofs.Ditherer.draw_diffused.Statement.{statement}
+use Rattle.drawing.proofs.Ditherer.draw_diffused.Tie as tie
+
+abbrev Inv-loop : tie.InvT-loop
+Inv-loop self zero linear reduction scale pixels colors oklab count out₀ cells₀ size i₀ out cells i =
+    Filling 4 (pixelBytes (drawingOf self zero (lent reduction scale pixels colors oklab count))) out₀ out i
+    × (cells ≡ cellsBefore (drawingOf self zero (lent reduction scale pixels colors oklab count)) i)
+
+abbrev μ-loop : tie.MeasureT-loop
+μ-loop self zero linear reduction scale pixels colors oklab count out₀ cells₀ size i₀ out cells i = size - i
+
+zero-floats-requires : tie.Need-zero-floats-requires Inv-loop μ-loop
+zero-floats-requires c κs = search needs
+
+cast-size : tie.Need-cast-size Inv-loop μ-loop
+cast-size c = search needs
+
+cast-size-2 : tie.Need-cast-size-2 Inv-loop μ-loop
+cast-size-2 c = search needs
+
+mul-size : tie.Need-mul-size Inv-loop μ-loop
+mul-size c = search needs
+
+loop-holds : tie.Need-loop-holds Inv-loop μ-loop
+loop-holds c = (fill-begin 4 _ _, turn-begin _ _ _ (c .before .before .before .before .before .before .before .before .before .before .before .before .before .pre .4) (c .before .before .before .before .zero-floats .ensures))
+
+diffused-pixel-requires : tie.Need-diffused-pixel-requires Inv-loop μ-loop
+diffused-pixel-requires c κs = let p = c .before .before .before .before .before .before .before .before .before .before .before .before .before .before .before .before .pre in (p .0, p .1, p .2, c .before .loop-test .taken, c .before .before .loop .inv .1)
+
+put-rgba-requires : tie.Need-put-rgba-requires Inv-loop μ-loop
+put-rgba-requires c κs = omega (arith, c .before .before .before .before .before .before .loop .inv .0 .long, c .before .before .before .before .before .before .before .before .before .before .before .before .before .before .before .before .before .before .before .before .pre .3, c .before .before .before .before .before .loop-test .taken)
+
+add-i : tie.Need-add-i Inv-loop μ-loop
+add-i c = omega (arith, c .before .before .before .before .before .before .before .before .before .before .before .before .before .before .before .before .before .before .before .before .before .before .before .pre .1 .few, c .before .before .before .before .before .before .before .before .loop-test .taken)
+
+loop-less : tie.Need-loop-less Inv-loop μ-loop
+loop-less c = omega (arith, c .before .before .before .before .before .before .before .before .loop-test .taken)
+
+loop-again : tie.Need-loop-again Inv-loop μ-loop
+loop-again c =
+    (out-more _ _ _ _ (c .before .before .before .before .before .before .before .before .before .before .before .before .before .before .before .before .before .before .before .before .before .before .before .pre .3) (c .before .before .before .before .before .before .before .before .before .loop .inv .0) _ _ (c .before .before .before .before .before .before .before .before .loop-test .taken) (c .before .before .before .before .before .before .diffused-pixel .ensures .0) (c .before .before .put-rgba .ensures), c .before .before .before .before .before .before .diffused-pixel .ensures .1)
+
+same-length : tie.Need-same-length Inv-loop μ-loop
+same-length c = c .before .loop .inv .0 .long
+
+same-length-2 : tie.Need-same-length-2 Inv-loop μ-loop
+same-length-2 c =
+    let l = c .before .loop in
+    let p = c .before .before .before .before .before .before .before .before .before .before .before .before .before .before .before .pre in
+    turn-length _ _ _ (omega (arith, l .inv .0 .within, p .3)) (l .inv .1) ∙ sym (p .4)
+
+returns : tie.Need-returns Inv-loop μ-loop
+returns c =
+    let l = c .before .loop in
+    let b = c .before .before .before .before .before .before .before .before .before .before .before .before .before .before .before in
+    let p = b .pre in
+    let e : l .i ≡ b .args .self .width * b .args .self .height = omega (arith, l .inv .0 .within, p .3, c .loop-test .left) in
+    (out-all _ _ _ _ (p .3) (l .inv .0) (c .loop-test .left), l .inv .1 ∙ ap (cellsBefore _) e)
+
+pub draw-diffused-spec : {M : Type 1} → statement M
+draw-diffused-spec =
+    tie.close
+    (tie.spec
+    Inv-loop
+    μ-loop
+    zero-floats-requires
+    cast-size
+    cast-size-2
+    mul-size
+    loop-holds
+    diffused-pixel-requires
+    put-rgba-requires
+    add-i
+    loop-less
+    loop-again
+    same-length
+    same-length-2
+    returns)

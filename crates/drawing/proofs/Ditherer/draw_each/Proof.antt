@@ -1,0 +1,69 @@
+-- `drawing::Ditherer::draw_each` meets its contract. The invariant: the first i pixels are in place, and the other bytes as they came. Assumes
+-- nothing.
+use Prim.Native.Nat.{_-_}
+use native.Mathlib.Omega.{arith}
+use borrow.Author.Needs.{needs}
+use Rattle.lists.proofs.FillLaws.{Filling, fill-begin}
+use Rattle.drawing.specs.Lent.{lent, drawingOf, pixelBytes}
+use Rattle.drawing.proofs.OutputLaws.{out-more, out-all}
+use Rattle.drawing.proofs.Ditherer.draw_each.Statement.{statement}
+use Rattle.drawing.proofs.Ditherer.draw_each.Tie as tie
+
+abbrev Inv-loop : tie.InvT-loop
+Inv-loop self zero linear reduction scale pixels colors oklab count out₀ size i₀ out i =
+    Filling 4 (pixelBytes (drawingOf self zero (lent reduction scale pixels colors oklab count))) out₀ out i
+
+abbrev μ-loop : tie.MeasureT-loop
+μ-loop self zero linear reduction scale pixels colors oklab count out₀ size i₀ out i = size - i
+
+cast-size : tie.Need-cast-size Inv-loop μ-loop
+cast-size c = search needs
+
+cast-size-2 : tie.Need-cast-size-2 Inv-loop μ-loop
+cast-size-2 c = search needs
+
+mul-size : tie.Need-mul-size Inv-loop μ-loop
+mul-size c = search needs
+
+loop-holds : tie.Need-loop-holds Inv-loop μ-loop
+loop-holds c = fill-begin 4 _ _
+
+pixel-color-requires : tie.Need-pixel-color-requires Inv-loop μ-loop
+pixel-color-requires c κs = let p = c .before .before .before .before .before .before .before .before .before .before .pre in (p .0, p .1, p .2, c .loop-test .taken)
+
+put-rgba-requires : tie.Need-put-rgba-requires Inv-loop μ-loop
+put-rgba-requires c κs = omega (arith, c .before .before .before .loop .inv .long, c .before .before .before .before .before .before .before .before .before .before .before .before .pre .3)
+
+add-i : tie.Need-add-i Inv-loop μ-loop
+add-i c = omega (arith, c .before .before .before .before .before .before .before .before .before .before .before .before .before .before .before .pre .1 .few)
+
+loop-less : tie.Need-loop-less Inv-loop μ-loop
+loop-less c = omega arith
+
+loop-again : tie.Need-loop-again Inv-loop μ-loop
+loop-again c =
+    out-more _ _ _ _ (c .before .before .before .before .before .before .before .before .before .before .before .before .before .before .before .pre .3) (c .before .before .before .before .before .before .loop .inv) _ _ (c .before .before .before .before .before .loop-test .taken) (c .before .before .before .before .pixel-color .ensures) (c .before .before .put-rgba .ensures)
+
+same-length : tie.Need-same-length Inv-loop μ-loop
+same-length c = c .before .loop .inv .long
+
+returns : tie.Need-returns Inv-loop μ-loop
+returns c = out-all _ _ _ _ (c .before .before .before .before .before .before .before .before .before .before .pre .3) (c .before .loop .inv) (c .loop-test .left)
+
+pub draw-each-spec : {M : Type 1} → statement M
+draw-each-spec =
+    tie.close
+    (tie.spec
+    Inv-loop
+    μ-loop
+    cast-size
+    cast-size-2
+    mul-size
+    loop-holds
+    pixel-color-requires
+    put-rgba-requires
+    add-i
+    loop-less
+    loop-again
+    same-length
+    returns)

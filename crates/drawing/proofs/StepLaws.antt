@@ -1,0 +1,92 @@
+-- What the code's choices are, from what the functions that it calls answer: the nearest, what is picked of a bracket, a diffused pixel, a plain one; and
+-- what is lent for a whole picture is what a pixel's choice needs. Stated over plain parameters. Assumes nothing.
+use mathlib.Core.Path.{_≡_, sym, ap, _∙_, subst}
+use mathlib.Core.Bool.{Bool, false}
+use mathlib.Core.List.{List, map}
+use Prim.Native.Nat.{ℕ, _+_, _*_, _/_, _%_, _≤_, _<_}
+use native.Mathlib.Nat.{div-add-mod'}
+use native.Mathlib.Omega.{arith}
+use lib.Dec.{T}
+use lib.IntN.{ℤ}
+use lib.Ieee.{Float}
+use Rattle.floats.specs.Over.{sixteenths}
+use Rattle.color.specs.declared.Rgba8888.{Rgba8888}
+use Rattle.color.specs.declared.NormalizedColor.{NormalizedColor}
+use Rattle.color.specs.declared.ReducedColor.{ReducedColor}
+use Rattle.color.specs.declared.Oklab.{Oklab}
+use Rattle.color.specs.Color.{rgbaAt}
+use Rattle.color.specs.Tables.{normalizeColor}
+use Rattle.color.specs.Oklab.{allInRange, oklabAt}
+use Rattle.conversion.specs.Oklab.{toOklab}
+use Rattle.picture.specs.Pixels.{sourceAt, pixelAt}
+use Rattle.patterns.specs.Kinds.{isDiffusion, kernelOf}
+use Rattle.patterns.specs.Thresholds.{thresholdAt}
+use Rattle.shortlist.specs.Candidates.{Candidates, scaled}
+use Rattle.shortlist.specs.Nearest.{nearestIn}
+use Rattle.lookup.specs.declared.BracketAt.{BracketAt}
+use Rattle.lookup.specs.declared.Bracket.{Bracket}
+use Rattle.lookup.specs.Bracket.{bracketAtOf, colored, pickAt}
+use Rattle.lookup.proofs.BracketLaws.{bracket-inside}
+use Rattle.diffusion.specs.Biased.{biasedColor}
+use Rattle.diffusion.specs.Scatter.{sends}
+use Rattle.diffusion.specs.Sends.{residualsOf}
+use Rattle.drawing.specs.declared.ColorZero.{ColorZero}
+use Rattle.drawing.specs.declared.Ditherer.{Ditherer}
+use Rattle.drawing.specs.Drawing.{nearestColor, orderedColor, colorAt, drawn}
+use Rattle.drawing.specs.Lent.{isSkipped, Lent, drawingOf, Ready}
+use Rattle.drawing.specs.Turns.{Choosable, Inside, Diffused}
+use Rattle.drawing.proofs.DrawnLaws.{drawn-plain}
+
+pub nearest-is : (colors scale : List ℕ) (oklab : List Float) (n : ℕ) (o : Oklab) (k : ℕ) (r : Rgba8888) (c : NormalizedColor)
+    → o ≡ toOklab c → k ≡ nearestIn (oklabAt oklab) n o → r ≡ rgbaAt colors k → _≡_ {A = ReducedColor} (record { 0 = r }) (nearestColor (scaled colors scale oklab n) c)
+unfolding nearestColor
+nearest-is colors scale oklab n o k r c converted near read =
+    let e : r ≡ rgbaAt colors (nearestIn (oklabAt oklab) n (toOklab c)) = read ∙ ap (rgbaAt colors) (near ∙ ap (nearestIn (oklabAt oklab) n) converted) in
+    λ q. record { 0 = e q }
+
+module _ (cs : Candidates) (width : ℕ) (o : Oklab) (c : NormalizedColor) (at : BracketAt) (made : at ≡ bracketAtOf cs width o c) where
+  -- the positions are entries of a list that holds the candidates
+  pub bracket-entries : 0 < cs .count → ((k : ℕ) → k < cs .count → T (allInRange (cs .oklab k))) → (m : ℕ) → 4 * cs .count ≤ m → (4 * at .dark + 3 < m) × (4 * at .light + 3 < m)
+  bracket-entries some range m room =
+      let inside = bracket-inside cs width o c some range in
+      subst (λ (b : BracketAt). (4 * b .dark + 3 < m) × (4 * b .light + 3 < m)) (sym made) (omega (arith, inside .0), omega (arith, inside .1))
+
+  pub ordered-is : (kind x y x′ y′ : ℕ) (bracket : Bracket) (threshold : Float) (r : ReducedColor) → o ≡ toOklab c → bracket ≡ colored (cs .reduced) at
+      → x ≡ x′ → y ≡ y′ → threshold ≡ thresholdAt kind x y → r ≡ pickAt bracket threshold → r ≡ orderedColor cs kind width x′ y′ c
+  unfolding orderedColor
+  ordered-is kind x y x′ y′ bracket threshold r converted read X Y found picked =
+      let b : bracket ≡ colored (cs .reduced) (bracketAtOf cs width (toOklab c) c) = read ∙ ap (colored (cs .reduced)) (made ∙ ap (λ (p : Oklab). bracketAtOf cs width p c) converted) in
+      let t : threshold ≡ thresholdAt kind x′ y′ = found ∙ (λ q. thresholdAt kind (X q) (Y q)) in
+      picked ∙ (λ q. pickAt (b q) (t q))
+
+pub diffused-is : (t : Ditherer) (cs : Candidates) (scale : List ℕ) (zs : List ℤ) (i : ℕ) (color biased normalized : NormalizedColor) (c : ReducedColor) (x y : ℕ) (cells : List Float)
+    → biased ≡ biasedColor color zs i → c ≡ nearestColor cs biased → normalized ≡ normalizeColor scale c → x ≡ i % t .width → y ≡ i / t .width
+    → cells ≡ map sixteenths (sends zs (residualsOf (biased .0) (normalized .0)) (kernelOf (t .kind)) (t .width) (t .height) (y * t .width + x))
+    → Diffused t cs scale zs i color c cells
+diffused-is t cs scale zs i color biased normalized c x y cells B C N X Y passed =
+    let at : y * t .width + x ≡ i = (λ q. Y q * t .width + X q) ∙ div-add-mod' i (t .width) in
+    record {
+      choice = C ∙ ap (nearestColor cs) B;
+      passed = passed ∙ (λ q. map sixteenths (sends zs (residualsOf (B q .0) (N q .0)) (kernelOf (t .kind)) (t .width) (t .height) (at q)));
+    }
+
+-- a pixel that is not skipped, where no error is diffused
+pub plain-is : (t : Ditherer) (zero : ColorZero) (l : Lent) (i : ℕ) (color : NormalizedColor) (c : ReducedColor) → isSkipped zero (pixelAt (l .reduction) (l .pixels) i) ≡ false → isDiffusion (t .kind) ≡ false
+    → color ≡ sourceAt (l .pixels) i
+    → c ≡ colorAt (scaled (l .colors) (l .scale) (l .oklab) (l .count)) (t .kind) (t .«bracket_width») (t .«origin_x» + i % t .width) (t .«origin_y» + i / t .width) color → c ≡ drawn (drawingOf t zero l) i
+plain-is t zero l i color c s k own chosen =
+    chosen
+    ∙ ap (colorAt (scaled (l .colors) (l .scale) (l .oklab) (l .count)) (t .kind) (t .«bracket_width») (t .«origin_x» + i % t .width) (t .«origin_y» + i / t .width)) own
+    ∙ sym (drawn-plain (drawingOf t zero l) i s k)
+
+module _ {t : Ditherer} {zero : ColorZero} {l : Lent} (ready : Ready t zero l) (i : ℕ) (inside : i < t .width * t .height) where
+  pub choosable : isSkipped zero (pixelAt (l .reduction) (l .pixels) i) ≡ false → Choosable (l .colors) (l .scale) (l .oklab) (l .count)
+  choosable s = record { some = ready .some i inside s; room = ready .colors; whole = ready .scale; ranged = ready .ranged }
+
+  pub placed : Inside t i
+  placed = record { inside = inside; wide = ready .wide; high = ready .high; across = ready .across; down = ready .down }
+
+-- whether a pixel is skipped, as the code asks
+pub skipped-as : (zero : ColorZero) (reduction pixels : List ℕ) (i : ℕ) (c : ReducedColor) (t u : Bool) → c ≡ pixelAt reduction pixels i → t ≡ isSkipped zero c → t ≡ u
+    → isSkipped zero (pixelAt reduction pixels i) ≡ u
+skipped-as zero reduction pixels i c t u read asked told = ap (isSkipped zero) (sym read) ∙ sym asked ∙ told

@@ -1,0 +1,83 @@
+-- The pictures that the code draws: what the lent bytes, floats and settings say, and what the lent buffers hold afterwards. Definitions only.
+-- Written from document 01, "Which document decides", "Choosing colours" and "Bounds and replies".
+use Prim.Native.Nat.{ℕ, _+_, _*_, _≤_, _<_}
+use mathlib.Core.Path.{_≡_}
+use mathlib.Core.Bool.{Bool, false, cond, _||_}
+use mathlib.Core.List.{List}
+use lib.ListN.{length}
+use lib.Ieee.{Float}
+use Rattle.lists.specs.Gather.{gather}
+use Rattle.color.specs.declared.ReducedColor.{ReducedColor}
+use Rattle.color.specs.Color.{isTransparent, sameRgb, bytesOf}
+use Rattle.color.specs.Tables.{normalizeColor}
+use Rattle.picture.specs.Pixels.{sourceAt, pixelAt}
+use Rattle.patterns.specs.Kinds.{isDiffusion, kernelOf}
+use Rattle.shortlist.specs.Candidates.{scaled, RangedList}
+use Rattle.diffusion.specs.Scatter.{cellBuffer}
+use Rattle.drawing.specs.declared.ColorZero.{ColorZero}
+use Rattle.drawing.specs.declared.ColorZero.the-variants.{Absent, Is}
+use Rattle.drawing.specs.declared.Ditherer.{Ditherer}
+use Rattle.drawing.specs.Drawing.{Drawing, pictureOf, drawn}
+
+-- the rgb is colour zero's; its alpha plays no part
+abbrev pub isZero : ColorZero → ReducedColor → Bool
+isZero Absent c = false
+isZero (Is z) c = sameRgb c z
+
+-- a pixel is skipped if its reduced colour is transparent or has colour zero's rgb
+unfoldable pub isSkipped : ColorZero → ReducedColor → Bool
+isSkipped zero c = isTransparent (c .0) || isZero zero c
+
+-- what is lent to be read: the two tables, the pixels, and the candidates with their Oklab colours
+pub record Lent : Type 0 where
+  pub reduction : List ℕ
+  pub scale : List ℕ
+  pub pixels : List ℕ
+  pub colors : List ℕ
+  pub oklab : List Float
+  pub count : ℕ
+
+abbrev pub lent : List ℕ → List ℕ → List ℕ → List ℕ → List Float → ℕ → Lent
+lent reduction scale pixels colors oklab count = record { reduction = reduction; scale = scale; pixels = pixels; colors = colors; oklab = oklab; count = count }
+
+abbrev pub drawingOf : Ditherer → ColorZero → Lent → Drawing
+drawingOf t zero l =
+    record {
+      width = t .width;
+      height = t .height;
+      originX = t .«origin_x»;
+      originY = t .«origin_y»;
+      kind = t .kind;
+      bracketWidth = t .«bracket_width»;
+      source = sourceAt (l .pixels);
+      reduced = pixelAt (l .reduction) (l .pixels);
+      skipped = λ i. isSkipped zero (pixelAt (l .reduction) (l .pixels) i);
+      candidates = scaled (l .colors) (l .scale) (l .oklab) (l .count);
+      normalize = normalizeColor (l .scale);
+    }
+
+-- pixel i's reduced bytes, and those of the whole picture, four a pixel
+abbrev pub pixelBytes : Drawing → ℕ → List ℕ
+pixelBytes d i = bytesOf (drawn d i .0)
+
+unfoldable pub reducedBytes : Drawing → List ℕ
+reducedBytes d = gather (d .width * d .height) (pixelBytes d)
+
+-- the cells after a picture is drawn: its sixteenths for a diffusion kind, and otherwise what was lent
+unfoldable pub cellsAfter : Drawing → List Float → List Float
+cellsAfter d was = cond (isDiffusion (d .kind)) (cellBuffer (kernelOf (d .kind)) (pictureOf d (drawn d))) was
+
+-- all that is lent fits the picture
+pub record Ready (t : Ditherer) (zero : ColorZero) (l : Lent) : Type 0 where
+  pub kind : t .kind ≤ 10
+  pub wide : t .width ≤ 4096
+  pub high : t .height ≤ 4096
+  pub few : t .width * t .height ≤ 1048576
+  pub across : t .«origin_x» + t .width ≤ 4294967295
+  pub down : t .«origin_y» + t .height ≤ 4294967295
+  pub reduction : length (l .reduction) ≡ 256
+  pub scale : length (l .scale) ≡ 256
+  pub pixels : length (l .pixels) ≡ 4 * (t .width * t .height)
+  pub colors : 4 * l .count ≤ length (l .colors)
+  pub ranged : RangedList (l .oklab) (l .count)
+  pub some : (i : ℕ) → i < t .width * t .height → isSkipped zero (pixelAt (l .reduction) (l .pixels) i) ≡ false → 0 < l .count

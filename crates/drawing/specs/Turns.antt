@@ -1,0 +1,50 @@
+-- What the code's steps need and promise: a choice among candidates, a pixel's place, and a diffused pixel with its cells. Definitions only.
+-- Written from document 01, "Choosing colours" and "Diffusion runs row by row, left to right".
+use Prim.Native.Nat.{ℕ, _+_, _*_, _≤_, _<_}
+use mathlib.Core.Path.{_≡_}
+use mathlib.Core.List.{List, map}
+use lib.IntN.{ℤ}
+use lib.ListN.{length}
+use lib.Ieee.{Float}
+use Rattle.floats.specs.Over.{sixteenths}
+use Rattle.color.specs.declared.NormalizedColor.{NormalizedColor}
+use Rattle.color.specs.declared.ReducedColor.{ReducedColor}
+use Rattle.color.specs.Tables.{normalizeColor}
+use Rattle.conversion.specs.Linear.{values}
+use Rattle.patterns.specs.Kinds.{kernelOf}
+use Rattle.shortlist.specs.Candidates.{Candidates, RangedList}
+use Rattle.diffusion.specs.Biased.{biasedColor}
+use Rattle.diffusion.specs.Scatter.{sends, scatter}
+use Rattle.diffusion.specs.Sends.{residualsOf}
+use Rattle.drawing.specs.declared.Ditherer.{Ditherer}
+use Rattle.drawing.specs.Drawing.{Drawing, nearestColor, pictureOf, drawn}
+
+-- the table of linear values is lent
+pub record Linear (t : List ℕ) : Type 0 where
+  pub is : t ≡ values
+
+-- there are candidates to choose from, in rooms that hold them
+pub record Choosable (colors scale : List ℕ) (oklab : List Float) (count : ℕ) : Type 0 where
+  pub some : 0 < count
+  pub room : 4 * count ≤ length colors
+  pub whole : length scale ≡ 256
+  pub ranged : RangedList oklab count
+
+-- pixel i is one of the picture's, and its column and row, counted from the origin, are numbers of 32 bits
+pub record Inside (t : Ditherer) (i : ℕ) : Type 0 where
+  pub inside : i < t .width * t .height
+  pub wide : t .width ≤ 4096
+  pub high : t .height ≤ 4096
+  pub across : t .«origin_x» + t .width ≤ 4294967295
+  pub down : t .«origin_y» + t .height ≤ 4294967295
+
+-- pixel i of that colour, whose cells are among the sixteenths zs: c is the nearest to its biased colour, and the cells are those after the
+-- biased colour's residual is passed on
+pub record Diffused (t : Ditherer) (cs : Candidates) (scale : List ℕ) (zs : List ℤ) (i : ℕ) (color : NormalizedColor) (c : ReducedColor) (cells : List Float) : Type 0 where
+  pub choice : c ≡ nearestColor cs (biasedColor color zs i)
+  pub passed :
+      cells ≡ map sixteenths (sends zs (residualsOf (biasedColor color zs i .0) (normalizeColor scale c .0)) (kernelOf (t .kind)) (t .width) (t .height) i)
+
+-- the cells when pixel i's turn comes, under a diffusion kind
+unfoldable pub cellsBefore : Drawing → ℕ → List Float
+cellsBefore d i = map sixteenths (scatter (kernelOf (d .kind)) (pictureOf d (drawn d)) i)

@@ -1,0 +1,368 @@
+// Drawing a picture: every pixel's choice, for all kinds of dithering, into a lent buffer as reduced bytes. Names are those
+// of `Ditherer` in src/dither.rs; the error cells are lent.
+use color::NormalizedColor;
+use color::ReducedColor;
+use lists::zero_floats;
+ghost use mathlib.Core.Path.{_≡_};
+ghost use mathlib.Core.Bool.{true, false};
+ghost use mathlib.Core.List.{List};
+ghost use Prim.Native.Nat.{_+_, _*_, _/_, _%_, _<_};
+ghost use lib.IntN.{ℤ};
+ghost use lib.ListN.{length};
+ghost use Rattle.floats.specs.Cells.{Cells};
+ghost use Rattle.patterns.specs.Kinds.{isOrdered, isDiffusion};
+ghost use Rattle.shortlist.specs.Candidates.{scaled};
+ghost use Rattle.drawing.specs.Drawing.{nearestColor, orderedColor, colorAt, drawn};
+ghost use Rattle.drawing.specs.Lent.{isZero, isSkipped, lent, drawingOf, reducedBytes, cellsAfter, Ready};
+ghost use Rattle.drawing.specs.Turns.{Linear, Choosable, Inside, Diffused, cellsBefore};
+
+// A picture's colour zero: absent, or one reduced colour.
+pub enum ColorZero {
+    Absent,
+    Is(ReducedColor),
+}
+
+// How a picture is dithered.
+pub struct Ditherer {
+    pub kind: u32,
+    pub origin_x: u32,
+    pub origin_y: u32,
+    pub width: u32,
+    pub height: u32,
+    pub bracket_width: u64,
+}
+
+// Whether a colour has colour zero's rgb.
+pub fn is_zero(zero: ColorZero, c: ReducedColor) -> bool
+    ensures { λ t. ⌜ t ≡ isZero zero c ⌝ }
+{
+    match zero {
+        ColorZero::Absent => false,
+        ColorZero::Is(z) => color::eq_rgb(c, z),
+    }
+}
+
+// Whether a pixel of this reduced colour is skipped: it is transparent, or has colour zero's rgb.
+pub fn is_skipped(zero: ColorZero, c: ReducedColor) -> bool
+    ensures { λ t. ⌜ t ≡ isSkipped zero c ⌝ }
+{
+    c.is_transparent() | is_zero(zero, c)
+}
+
+// ---- one colour
+
+// The reduced colour of the nearest candidate. No public call: the caller sees to the table and the candidates.
+fn nearest_color(
+    linear: &[u64; 256],
+    colors: &[u8],
+    scale: &[u8],
+    oklab: &[f32],
+    count: usize,
+    color: NormalizedColor,
+) -> ReducedColor
+    requires { ⌜ Linear (now linear) × Choosable (now colors) (now scale) (now oklab) count ⌝ }
+    ensures { λ c. ⌜ c ≡ nearestColor (scaled (now (colors .entry)) (now (scale .entry)) (now (oklab .entry)) count) color ⌝ }
+{
+    let o = conversion::to_oklab_with(linear, color);
+    let k = shortlist::near::nearest_position(oklab, count, o);
+    ReducedColor(color::rgba_at(colors, k))
+}
+
+impl Ditherer {
+    // Pixel i's column in the picture. No public call: the caller sees to the pixel.
+    fn column(self, i: usize) -> u32
+        requires { ⌜ i < self .width * self .height ⌝ }
+        ensures { λ x. ⌜ (x ≡ i % self .width) × (x < self .width) ⌝ }
+    {
+        (i % self.width as usize) as u32
+    }
+
+    // Pixel i's row in the picture. No public call: the caller sees to the pixel.
+    fn row(self, i: usize) -> u32
+        requires { ⌜ i < self .width * self .height ⌝ }
+        ensures { λ y. ⌜ (y ≡ i / self .width) × (y < self .height) ⌝ }
+    {
+        (i / self.width as usize) as u32
+    }
+
+    // Pixel i's column in the source picture, where a matrix is read. No public call: the caller sees to the pixel.
+    fn source_column(self, i: usize) -> u32
+        requires { ⌜ Inside self i ⌝ }
+        ensures { λ x. ⌜ x ≡ self .«origin_x» + i % self .width ⌝ }
+    {
+        self.origin_x + self.column(i)
+    }
+
+    // Pixel i's row in the source picture. No public call: the caller sees to the pixel.
+    fn source_row(self, i: usize) -> u32
+        requires { ⌜ Inside self i ⌝ }
+        ensures { λ y. ⌜ y ≡ self .«origin_y» + i / self .width ⌝ }
+    {
+        self.origin_y + self.row(i)
+    }
+
+    // What is picked of the colour's bracket at pixel i. No public call: the caller sees to the table, the candidates, the
+    // pixel and the kind.
+    fn ordered_color_at(
+        self,
+        linear: &[u64; 256],
+        colors: &[u8],
+        scale: &[u8],
+        oklab: &[f32],
+        count: usize,
+        i: usize,
+        color: NormalizedColor,
+    ) -> ReducedColor
+        requires { ⌜ Linear (now linear) × Choosable (now colors) (now scale) (now oklab) count × Inside self i × (isOrdered (self .kind) ≡ true) ⌝ }
+        ensures { λ c. ⌜ c ≡ orderedColor (scaled (now (colors .entry)) (now (scale .entry)) (now (oklab .entry)) count) (self .kind) (self .«bracket_width»)
+            (self .«origin_x» + i % self .width) (self .«origin_y» + i / self .width) color ⌝ }
+    {
+        let o = conversion::to_oklab_with(linear, color);
+        let width = self.bracket_width;
+        let at = lookup::brackets::bracket_positions(oklab, colors, scale, count, width, o, color);
+        let bracket = lookup::brackets::bracket_at(colors, at);
+        let x = self.source_column(i);
+        let y = self.source_row(i);
+        lookup::pick_at(bracket, patterns::threshold_at(self.kind, x, y))
+    }
+
+    // What is chosen for a colour at pixel i where no error is diffused. No public call: the caller sees to the table, the
+    // candidates and the pixel.
+    fn color_at(
+        self,
+        linear: &[u64; 256],
+        colors: &[u8],
+        scale: &[u8],
+        oklab: &[f32],
+        count: usize,
+        i: usize,
+        color: NormalizedColor,
+    ) -> ReducedColor
+        requires { ⌜ Linear (now linear) × Choosable (now colors) (now scale) (now oklab) count × Inside self i ⌝ }
+        ensures { λ c. ⌜ c ≡ colorAt (scaled (now (colors .entry)) (now (scale .entry)) (now (oklab .entry)) count) (self .kind) (self .«bracket_width»)
+            (self .«origin_x» + i % self .width) (self .«origin_y» + i / self .width) color ⌝ }
+    {
+        if patterns::is_ordered(self.kind) {
+            return self.ordered_color_at(linear, colors, scale, oklab, count, i, color);
+        }
+        nearest_color(linear, colors, scale, oklab, count, color)
+    }
+
+    // What is chosen for a colour at pixel i, whose cells are lent: the nearest to the biased colour, whose residual is
+    // passed on. No public call: the caller sees to the table, the candidates, the pixel, the kind and the cells.
+    fn diffusion_color_at(
+        self,
+        linear: &[u64; 256],
+        colors: &[u8],
+        scale: &[u8],
+        oklab: &[f32],
+        count: usize,
+        i: usize,
+        color: NormalizedColor,
+        cells: &mut [f32],
+    ) -> ReducedColor
+        requires { ⌜ Linear (now linear) × Choosable (now colors) (now scale) (now oklab) count × Inside self i × (isDiffusion (self .kind) ≡ true)
+            × (length (now cells) ≡ 3 * (self .width * self .height)) × ((zs : List ℤ) × Cells 4080 (now cells) zs) ⌝ }
+        ensures { λ c. ⌜ ((zs : List ℤ) → Cells 4080 (now (cells .entry)) zs
+            → Diffused self (scaled (now (colors .entry)) (now (scale .entry)) (now (oklab .entry)) count) (now (scale .entry)) zs i color c (now (cells .exit))) ⌝ }
+    {
+        let biased = diffusion::biased_color(cells, i, color);
+        let chosen = nearest_color(linear, colors, scale, oklab, count, biased);
+        let normalized = color::normalize_color(scale, chosen);
+        let x = self.column(i);
+        let y = self.row(i);
+        diffusion::diffuse_residual(
+            self.kind,
+            cells,
+            self.width,
+            self.height,
+            x,
+            y,
+            biased,
+            normalized,
+        );
+        chosen
+    }
+
+    // ---- one pixel: a skipped one keeps its reduced colour
+
+    // What pixel i chooses where no error is diffused. No public call: the caller sees to what is lent and the pixel.
+    fn pixel_color(
+        self,
+        zero: ColorZero,
+        linear: &[u64; 256],
+        reduction: &[u8],
+        scale: &[u8],
+        pixels: &[u8],
+        colors: &[u8],
+        oklab: &[f32],
+        count: usize,
+        i: usize,
+    ) -> ReducedColor
+        requires { ⌜ Linear (now linear) × Ready self zero (lent (now reduction) (now scale) (now pixels) (now colors) (now oklab) count)
+            × (isDiffusion (self .kind) ≡ false) × (i < self .width * self .height) ⌝ }
+        ensures { λ c. ⌜ c ≡ drawn (drawingOf self zero (lent (now (reduction .entry)) (now (scale .entry)) (now (pixels .entry)) (now (colors .entry)) (now (oklab .entry)) count)) i ⌝ }
+    {
+        let kept = picture::pixel_at(reduction, pixels, i);
+        if is_skipped(zero, kept) {
+            return kept;
+        }
+        let color = picture::source_at(pixels, i);
+        self.color_at(linear, colors, scale, oklab, count, i, color)
+    }
+
+    // What pixel i chooses where error is diffused: a skipped one leaves the cells alone. No public call: the caller sees to
+    // what is lent, the pixel and the cells.
+    fn diffused_pixel(
+        self,
+        zero: ColorZero,
+        linear: &[u64; 256],
+        reduction: &[u8],
+        scale: &[u8],
+        pixels: &[u8],
+        colors: &[u8],
+        oklab: &[f32],
+        count: usize,
+        i: usize,
+        cells: &mut [f32],
+    ) -> ReducedColor
+        requires { ⌜ Linear (now linear) × Ready self zero (lent (now reduction) (now scale) (now pixels) (now colors) (now oklab) count)
+            × (isDiffusion (self .kind) ≡ true) × (i < self .width * self .height)
+            × (now cells ≡ cellsBefore (drawingOf self zero (lent (now reduction) (now scale) (now pixels) (now colors) (now oklab) count)) i) ⌝ }
+        ensures { λ c. ⌜ (c ≡ drawn (drawingOf self zero (lent (now (reduction .entry)) (now (scale .entry)) (now (pixels .entry)) (now (colors .entry)) (now (oklab .entry)) count)) i)
+            × (now (cells .exit) ≡ cellsBefore (drawingOf self zero (lent (now (reduction .entry)) (now (scale .entry)) (now (pixels .entry)) (now (colors .entry)) (now (oklab .entry)) count)) (i + 1)) ⌝ }
+    {
+        let c = picture::pixel_at(reduction, pixels, i);
+        if is_skipped(zero, c) {
+            return c;
+        }
+        let color = picture::source_at(pixels, i);
+        self.diffusion_color_at(linear, colors, scale, oklab, count, i, color, cells)
+    }
+
+    // ---- the whole picture
+
+    // Draws where no error is diffused. No public call: the caller sees to what is lent.
+    fn draw_each(
+        self,
+        zero: ColorZero,
+        linear: &[u64; 256],
+        reduction: &[u8],
+        scale: &[u8],
+        pixels: &[u8],
+        colors: &[u8],
+        oklab: &[f32],
+        count: usize,
+        out: &mut [u8],
+    )
+        requires { ⌜ Linear (now linear) × Ready self zero (lent (now reduction) (now scale) (now pixels) (now colors) (now oklab) count)
+            × (isDiffusion (self .kind) ≡ false) × (length (now out) ≡ 4 * (self .width * self .height)) ⌝ }
+        ensures { λ _. ⌜ now (out .exit) ≡ reducedBytes (drawingOf self zero (lent (now (reduction .entry)) (now (scale .entry)) (now (pixels .entry)) (now (colors .entry)) (now (oklab .entry)) count)) ⌝ }
+    {
+        let size = self.width as usize * self.height as usize;
+        let mut i = 0;
+        while i < size {
+            let c = self.pixel_color(
+                zero,
+                linear,
+                reduction,
+                scale,
+                pixels,
+                colors,
+                oklab,
+                count,
+                i,
+            );
+            color::put_rgba(out, i, c.0);
+            i += 1;
+        }
+    }
+
+    // Draws where error is diffused: the cells start at 0. No public call: the caller sees to what is lent.
+    fn draw_diffused(
+        self,
+        zero: ColorZero,
+        linear: &[u64; 256],
+        reduction: &[u8],
+        scale: &[u8],
+        pixels: &[u8],
+        colors: &[u8],
+        oklab: &[f32],
+        count: usize,
+        out: &mut [u8],
+        cells: &mut [f32],
+    )
+        requires { ⌜ Linear (now linear) × Ready self zero (lent (now reduction) (now scale) (now pixels) (now colors) (now oklab) count)
+            × (isDiffusion (self .kind) ≡ true) × (length (now out) ≡ 4 * (self .width * self .height)) × (length (now cells) ≡ 3 * (self .width * self .height)) ⌝ }
+        ensures { λ _. ⌜ (now (out .exit) ≡ reducedBytes (drawingOf self zero (lent (now (reduction .entry)) (now (scale .entry)) (now (pixels .entry)) (now (colors .entry)) (now (oklab .entry)) count)))
+            × (now (cells .exit) ≡ cellsBefore (drawingOf self zero (lent (now (reduction .entry)) (now (scale .entry)) (now (pixels .entry)) (now (colors .entry)) (now (oklab .entry)) count)) (self .width * self .height)) ⌝ }
+    {
+        zero_floats(cells);
+        let size = self.width as usize * self.height as usize;
+        let mut i = 0;
+        while i < size {
+            let chosen = self.diffused_pixel(
+                zero,
+                linear,
+                reduction,
+                scale,
+                pixels,
+                colors,
+                oklab,
+                count,
+                i,
+                cells,
+            );
+            color::put_rgba(out, i, chosen.0);
+            i += 1;
+        }
+    }
+
+    // Draws the picture: every pixel's choice, as reduced bytes, and the cells of a diffusion kind. No public call: the
+    // caller sees to what is lent.
+    pub fn draw(
+        self,
+        zero: ColorZero,
+        reduction: &[u8],
+        scale: &[u8],
+        pixels: &[u8],
+        colors: &[u8],
+        oklab: &[f32],
+        count: usize,
+        out: &mut [u8],
+        cells: &mut [f32],
+    )
+        requires { ⌜ Ready self zero (lent (now reduction) (now scale) (now pixels) (now colors) (now oklab) count)
+            × (length (now out) ≡ 4 * (self .width * self .height)) × (isDiffusion (self .kind) ≡ true → length (now cells) ≡ 3 * (self .width * self .height)) ⌝ }
+        ensures { λ _. ⌜ (now (out .exit) ≡ reducedBytes (drawingOf self zero (lent (now (reduction .entry)) (now (scale .entry)) (now (pixels .entry)) (now (colors .entry)) (now (oklab .entry)) count)))
+            × (now (cells .exit) ≡ cellsAfter (drawingOf self zero (lent (now (reduction .entry)) (now (scale .entry)) (now (pixels .entry)) (now (colors .entry)) (now (oklab .entry)) count)) (now (cells .entry))) ⌝ }
+    {
+        let linear = conversion::linear::linear_table();
+        if patterns::is_diffusion(self.kind) {
+            self.draw_diffused(
+                zero,
+                &linear,
+                reduction,
+                scale,
+                pixels,
+                colors,
+                oklab,
+                count,
+                out,
+                cells,
+            );
+        } else {
+            self.draw_each(
+                zero,
+                &linear,
+                reduction,
+                scale,
+                pixels,
+                colors,
+                oklab,
+                count,
+                out,
+            );
+        }
+    }
+}
