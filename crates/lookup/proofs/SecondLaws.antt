@@ -13,7 +13,7 @@ use lib.ListN.{length, getD, take, length-append, List·getD-append}
 use lib.Seq.{take-suc, getD-take, length-take-le, getD-append-add}
 use lib.Ieee.{Float, lt}
 use Rattle.floats.proofs.Order.{Plain, upto-plain}
-use Rattle.lists.specs.Least.{leastOf, Least}
+use Rattle.lists.specs.Least.{leastOf}
 use Rattle.lists.specs.Order.{In}
 use Rattle.lists.proofs.Bools.{clash}
 use Rattle.lists.proofs.LeastLaws.{least-step, least-one, least-inside, least-is, least-only}
@@ -22,7 +22,7 @@ use Rattle.color.specs.declared.NormalizedColor.{NormalizedColor}
 use Rattle.mixing.specs.Lerp.{shareOf, lerpOf, between, mixResidual, Bytes}
 use Rattle.mixing.proofs.Between.{between-within}
 use Rattle.mixing.proofs.Residuals.{residual-upto}
-use Rattle.lookup.specs.Second.{those, leastAmong, secondIn, secondOf, mixable, mixError, Held, improved, weighed}
+use Rattle.lookup.specs.Second.{those, leastAmong, secondIn, secondOf, IsSecondIn, mixable, mixError, Held, improved, weighed}
 use Rattle.lookup.specs.declared.Best.{Best}
 use Rattle.lookup.specs.declared.Second.{Second}
 use Rattle.lookup.specs.declared.Second.the-variants.{At, Nothing}
@@ -188,12 +188,6 @@ second-in p e ks b q = go (those p ks) ks q (λ k i. those-in p ks k i .0)
     go [] [] h sub = absurd (never h)
 
 -- ---- what the second is
-
--- of those that pass, `passing`, and of the whole list
-abbrev pub IsSecondIn : (ℕ → Float) → List ℕ → List ℕ → Second → Type 0
-IsSecondIn e (q ∷ passing) ks s = (r : ℕ) × Least lt (λ (j : ℕ). e (getD (q ∷ passing) j 0)) (length (q ∷ passing)) r × (s ≡ At (getD (q ∷ passing) r 0))
-IsSecondIn e [] (k ∷ ks) s = s ≡ At k
-IsSecondIn e [] [] s = s ≡ Nothing
 
 module _ (p : ℕ → Bool) (e : ℕ → Float) (ks : List ℕ) where
   pub second-is : ((k : ℕ) → In k ks → p k ≡ true → Plain (e k)) → IsSecondIn e (those p ks) ks (secondOf p e ks)

@@ -20,16 +20,19 @@ use Rattle.lookup.specs.declared.FoundTwo.the-variants as two
 use Rattle.lookup.specs.declared.FoundBracket.the-variants as bracket
 use Rattle.lookup.specs.declared.Picked.the-variants as picked
 
+-- the position of the nearest entry, or the number of the list
 unfoldable pub nearestAnswer : List ℕ → List ℕ → List Float → NormalizedColor → Found
 nearestAnswer reduced normalized oklab color =
     let n = listNumber reduced normalized oklab in
     after n (found.At (nearestOf (flat reduced normalized oklab) (toOklab color))) (found.Refused n)
 
+-- the nearest two, or the number of the list
 unfoldable pub nearestTwoAnswer : List ℕ → List ℕ → List Float → NormalizedColor → ℕ → FoundTwo
 nearestTwoAnswer reduced normalized oklab color width =
     let n = listNumber reduced normalized oklab in
     after n (two.At (nearestTwoOf (flat reduced normalized oklab) width (toOklab color) color)) (two.Refused n)
 
+-- the bracket, or the number of the list
 unfoldable pub bracketAnswer : List ℕ → List ℕ → List Float → NormalizedColor → ℕ → FoundBracket
 bracketAnswer reduced normalized oklab color width =
     let n = listNumber reduced normalized oklab in

@@ -22,6 +22,7 @@ countFits n = ltb 0 n && not (ltb 65536 n)
 unfoldable pub firstOutside : List Float → ℕ
 firstOutside xs = firstThat (λ k. not (inRange (getD xs k nan))) (length xs)
 
+-- the numbers of a list of reduced bytes, normalised bytes and Oklab floats, and when each applies
 abbrev pub listReplies : List ℕ → List ℕ → List Float → List Reply
 listReplies reduced normalized oklab =
     (3 if not (lengthsFit (length reduced) (length normalized) (length oklab)))

@@ -2,12 +2,12 @@
 -- Written from document 01, "Choosing colours": "Among those whose unclamped `lerp` is from 0 to 1, take the smallest `mix_residual`, first of
 -- equals. If none, the shortlist's first. With one candidate there is no second."
 use Prim.Native.Nat.{ℕ}
-use mathlib.Core.List.{List, [], _∷_}
 use mathlib.Core.Path.{_≡_}
+use mathlib.Core.List.{List, [], _∷_}
 use mathlib.Core.Bool.{Bool, true, false, cond, not, _||_}
 use lib.ListN.{length, getD}
 use lib.Ieee.{Float, lt}
-use Rattle.lists.specs.Least.{leastOf}
+use Rattle.lists.specs.Least.{leastOf, Least}
 use Rattle.color.specs.declared.NormalizedColor.{NormalizedColor}
 use Rattle.color.specs.declared.Oklab.{Oklab}
 use Rattle.mixing.specs.Lerp.{shareOf, between, mixResidual}
@@ -36,6 +36,12 @@ secondIn e [] [] = Nothing
 
 abbrev pub secondOf : (ℕ → Bool) → (ℕ → Float) → List ℕ → Second
 secondOf p e ks = secondIn e (those p ks) ks
+
+-- s is the second, of those that pass and of the whole list: what `secondIn` is, and all that it is (proofs/SecondLaws)
+abbrev pub IsSecondIn : (ℕ → Float) → List ℕ → List ℕ → Second → Type 0
+IsSecondIn e (k ∷ passing) ks s = (r : ℕ) × Least lt (λ (j : ℕ). e (getD (k ∷ passing) j 0)) (length (k ∷ passing)) r × (s ≡ At (getD (k ∷ passing) r 0))
+IsSecondIn e [] (k ∷ ks) s = s ≡ At k
+IsSecondIn e [] [] s = s ≡ Nothing
 
 -- whether the unclamped `lerp` from entry a to entry k is from 0 to 1, and the residual of that mix
 abbrev pub mixable : (ℕ → NormalizedColor) → ℕ → NormalizedColor → ℕ → Bool
