@@ -4,9 +4,11 @@ use crate::text::ANY;
 use crate::text::are_floats;
 use crate::text::byte_at;
 use crate::text::float_at;
+use crate::text::floats;
 use crate::text::is_byte;
 use crate::text::is_float;
 use crate::text::is_long;
+use crate::text::is_position;
 use crate::text::is_refusal;
 use crate::text::number;
 use crate::text::part;
@@ -15,6 +17,14 @@ use crate::text::word;
 use color::Distance;
 use color::NormalizedColor;
 use color::Oklab;
+use color::ReducedColor;
+use lookup::Bracket;
+use lookup::Found;
+use lookup::FoundBracket;
+use lookup::FoundTwo;
+use lookup::Picked;
+use lookup::Second;
+use lookup::Two;
 use mixing::Width;
 use patterns::Thresholded;
 
@@ -33,6 +43,18 @@ fn oklab_at(p: &[u8], i: u8) -> Oklab {
         b: float_at(p, at + 2),
     }
 }
+
+fn reduced_of(p: &[u8]) -> ReducedColor {
+    ReducedColor::new(byte_at(p, 0), byte_at(p, 1), byte_at(p, 2), byte_at(p, 3))
+}
+
+// Whether token k is this colour.
+fn is_color(room: &[u8], k: usize, c: ReducedColor) -> bool {
+    let bytes = [c.0.r, c.0.g, c.0.b, c.0.a];
+    check::same(part(room, k), &bytes)
+}
+
+// ---- the calls on single values
 
 // o: color | lightness a b
 fn to_oklab(room: &[u8]) -> bool {
@@ -94,6 +116,106 @@ fn lerp(room: &[u8]) -> bool {
     is_float(room, 2, t)
 }
 
+// p: dark light ratio kind x y | number chosen
+fn pick(room: &[u8]) -> bool {
+    if !shaped(room, &[4, 4, 4, 4, 4, 4, 1, ANY]) {
+        return false;
+    }
+    let bracket = Bracket {
+        dark: reduced_of(part(room, 0)),
+        light: reduced_of(part(room, 1)),
+        ratio: float_at(part(room, 2), 0),
+    };
+    match lookup::pick(bracket, word(room, 3), word(room, 4), word(room, 5)) {
+        Picked::Color(c) => is_byte(room, 6, 0) & is_color(room, 7, c),
+        Picked::Refused(n) => is_refusal(room, 6, n),
+    }
+}
+
+// ---- the lookups, whose list's Oklab colours are lent as floats
+
+// n: reduced normalized oklab color | number position
+fn nearest(room: &[u8], oklab: &[f32]) -> bool {
+    if !shaped(room, &[ANY, ANY, ANY, 3, 1, ANY]) {
+        return false;
+    }
+    let color = color_at(part(room, 3), 0);
+    match lookup::flat_nearest(part(room, 0), part(room, 1), oklab, color) {
+        Found::At(position) => is_byte(room, 4, 0) & is_position(room, 5, position),
+        Found::Refused(n) => is_refusal(room, 4, n),
+    }
+}
+
+// The second's position, the first's where there is none.
+fn second_of(two: Two) -> usize {
+    let second = two.second;
+    match second {
+        Second::At(position) => position,
+        Second::Nothing => two.first,
+    }
+}
+
+fn are_two(room: &[u8], two: Two) -> bool {
+    is_byte(room, 5, 0) & (is_position(room, 6, two.first) & is_position(room, 7, second_of(two)))
+}
+
+// m: reduced normalized oklab color width | number first second
+fn nearest_two(room: &[u8], oklab: &[f32]) -> bool {
+    if !shaped(room, &[ANY, ANY, ANY, 3, 8, 1, ANY, ANY]) {
+        return false;
+    }
+    let color = color_at(part(room, 3), 0);
+    match lookup::flat_nearest_two(part(room, 0), part(room, 1), oklab, color, number(room, 4)) {
+        FoundTwo::At(two) => are_two(room, two),
+        FoundTwo::Refused(n) => is_refusal(room, 5, n),
+    }
+}
+
+fn is_bracket(room: &[u8], bracket: Bracket) -> bool {
+    let dark = bracket.dark;
+    let light = bracket.light;
+    is_byte(room, 5, 0)
+        & (is_color(room, 6, dark) & (is_color(room, 7, light) & is_float(room, 8, bracket.ratio)))
+}
+
+// b: reduced normalized oklab color width | number dark light ratio
+fn ordered_bracket(room: &[u8], oklab: &[f32]) -> bool {
+    if !shaped(room, &[ANY, ANY, ANY, 3, 8, 1, ANY, ANY, ANY]) {
+        return false;
+    }
+    let color = color_at(part(room, 3), 0);
+    match lookup::flat_ordered_bracket(
+        part(room, 0),
+        part(room, 1),
+        oklab,
+        color,
+        number(room, 4),
+    ) {
+        FoundBracket::Of(bracket) => is_bracket(room, bracket),
+        FoundBracket::Refused(n) => is_refusal(room, 5, n),
+    }
+}
+
+fn looked_up(letter: u8, room: &[u8], oklab: &mut [f32]) -> bool {
+    if !floats(room, 2, oklab) {
+        return false;
+    }
+    match letter {
+        b'n' => nearest(room, oklab),
+        b'm' => nearest_two(room, oklab),
+        _ => ordered_bracket(room, oklab),
+    }
+}
+
+fn look_up(letter: u8, room: &[u8]) -> bool {
+    let mut oklab = [0.0f32; 256];
+    let n = part(room, 2).len() / 4;
+    if n <= 256 {
+        return looked_up(letter, room, &mut oklab[0..n]);
+    }
+    false
+}
+
 // Whether a call is lent the two tables.
 pub fn has_tables(letter: u8) -> bool {
     (letter == b'c') | ((letter == b'q') | (letter == b'x'))
@@ -107,6 +229,8 @@ pub fn same(letter: u8, room: &[u8]) -> bool {
         b't' => ordered_threshold(room),
         b'w' => bracket_width(room),
         b'l' => lerp(room),
+        b'p' => pick(room),
+        b'n' | b'm' | b'b' => look_up(letter, room),
         _ => false,
     }
 }

@@ -207,6 +207,10 @@ pub fn is_byte(room: &[u8], k: usize, n: u8) -> bool {
     (part(room, k).len() == 1) & (number(room, k) == n as u64)
 }
 
+pub fn is_position(room: &[u8], k: usize, n: usize) -> bool {
+    (part(room, k).len() == 4) & (number(room, k) == n as u64)
+}
+
 pub fn is_long(room: &[u8], k: usize, n: u64) -> bool {
     (part(room, k).len() == 8) & (number(room, k) == n)
 }
@@ -246,6 +250,14 @@ pub fn float_at(p: &[u8], i: usize) -> f32 {
     float_of(word_of(float_piece(p, i)))
 }
 
+fn fill(out: &mut [f32], p: &[u8]) {
+    let mut i = 0;
+    while i < out.len() {
+        out[i] = float_at(p, i);
+        i += 1;
+    }
+}
+
 fn writes_floats(p: &[u8], floats: &[f32]) -> bool {
     if (p.len() % 4 != 0) | (p.len() / 4 != floats.len()) {
         return false;
@@ -268,4 +280,10 @@ pub fn is_float(room: &[u8], k: usize, x: f32) -> bool {
 // Whether token k is just these floats.
 pub fn are_floats(room: &[u8], k: usize, floats: &[f32]) -> bool {
     writes_floats(part(room, k), floats)
+}
+
+// Reads the floats of token k. Answers whether it has just so many, and no NaN.
+pub fn floats(room: &[u8], k: usize, out: &mut [f32]) -> bool {
+    fill(out, part(room, k));
+    are_floats(room, k, out)
 }

@@ -1,0 +1,6 @@
+-- The laws of `judging`.
+pub mod DifferentLaws
+pub mod KeyLaws
+pub mod TileLaws
+pub mod ScanLaws
+pub mod JudgedLaws
