@@ -4,6 +4,7 @@ use color::Oklab;
 use libc::STDOUT_FILENO;
 use mixing::Width;
 use patterns::Thresholded;
+use quantize::Reply;
 
 fn told(same: bool) {
     if same {
@@ -82,6 +83,50 @@ fn e5() -> bool {
         )
 }
 
+// ---- E6: a biased byte and what rounding and clipping took, in sixteenths
+
+// Whether 16 source + cell - 16 biased is `taken` less `given`.
+fn loss_is(source: u8, cell: u32, biased: u8, taken: u32, given: u32) -> bool {
+    source as u64 * 16 + cell as u64 + given as u64 == biased as u64 * 16 + taken as u64
+}
+
+fn e6() -> bool {
+    let up = diffusion::biased(10, 0.5);
+    let clipped = diffusion::biased(250, 20.0);
+    ((up == 11) & loss_is(10, 8, up, 0, 8))
+        & ((clipped == 255) & loss_is(250, 320, clipped, 240, 0))
+}
+
+// ---- E11: palettes of 256 and 257 entries
+
+fn number_for(palette: &[u8]) -> u8 {
+    let table = [0u8; 256];
+    let pixel = [9u8, 9, 9, 255];
+    let mut index = [7u8; 1];
+    let mut out = [7u8; 4];
+    let mut cells = [0.0f32; 0];
+    match quantize::quantize_pixels(
+        3,
+        0,
+        1,
+        1,
+        &table,
+        &table,
+        palette,
+        &pixel,
+        &mut index,
+        &mut out,
+        &mut cells,
+    ) {
+        Reply::Accepted => 0,
+        Reply::Refused(number) => number,
+    }
+}
+
+fn e11() -> bool {
+    (number_for(&[0u8; 1024]) == 0) & (number_for(&[0u8; 1028]) == 4)
+}
+
 fn main() {
     io::write_all(STDOUT_FILENO, b"E1");
     told(e1());
@@ -93,4 +138,8 @@ fn main() {
     told(e4());
     io::write_all(STDOUT_FILENO, b"E5");
     told(e5());
+    io::write_all(STDOUT_FILENO, b"E6");
+    told(e6());
+    io::write_all(STDOUT_FILENO, b"E11");
+    told(e11());
 }
