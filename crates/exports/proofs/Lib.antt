@@ -1,2 +1,4 @@
 -- The laws of `exports`.
 pub mod AnswerLaws
+pub mod LookupLaws
+pub mod PictureLaws

@@ -1,2 +1,3 @@
--- The definitions of `exports`: what stands behind a pointer after each answer.
+-- The definitions of `exports`: what stands behind a pointer or in a buffer after each answer.
 pub mod Answers
+pub mod Lookups

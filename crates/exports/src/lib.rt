@@ -1,18 +1,36 @@
-// The C interface: each function is one call down, and hands numbers over. include/badge_dither.h declares them. Each but the
-// first answers document 01's number; what is behind a pointer is written on acceptance only.
+// The C interface: each function is one call down, and hands numbers over. include/badge_dither.h declares them. All but
+// `badge_to_oklab` and `badge_lerp` answer document 01's number; what is behind a pointer or in a lent buffer is written on
+// acceptance only.
 use color::Distance;
 use color::NormalizedColor;
 use color::Oklab;
+use color::ReducedColor;
+use color::put_rgba;
+use color::rgba_at;
+use lookup::Bracket;
+use lookup::Found;
+use lookup::FoundBracket;
+use lookup::FoundTwo;
+use lookup::Picked;
+use lookup::Second;
+use lookup::Two;
 use mixing::Width;
 use patterns::Thresholded;
+use quantize::Reply;
 ghost use mathlib.Core.Path.{_≡_};
 ghost use mathlib.Core.Bool.{not};
 ghost use lib.Dec.{eqb};
+ghost use lib.ListN.{length};
+ghost use Rattle.lists.specs.Lowest.{after};
+ghost use Rattle.color.specs.Color.{reducedAt, bytesOf};
 ghost use Rattle.color.specs.Oklab.{distanceOf, numberOf};
 ghost use Rattle.patterns.specs.Thresholds.{thresholdOf};
 ghost use Rattle.mixing.specs.Lerp.{lerpOf};
 ghost use Rattle.mixing.specs.Widths.{bracketWidthOf};
-ghost use Rattle.exports.specs.Answers.{normalized, oklabOfRgb, oklab, squaredAfter, thresholdNumber, thresholdAfter, widthNumber, widthAfter};
+ghost use Rattle.drawing.specs.Lent.{cellsAfter};
+ghost use Rattle.quantize.specs.Quantize.{order, quantizing, numberFor, lengthsOf, indicesOf, pixelsOf};
+ghost use Rattle.exports.specs.Answers.{opaqueRgb, oklabOfRgb, oklab, squaredAfter, thresholdNumber, thresholdAfter, widthNumber, widthAfter};
+ghost use Rattle.exports.specs.Lookups.{nearestNumber, nearestRgb, positionAfter, nearestTwoNumber, nearestTwoRgb, firstAfter, secondOf, secondAfter, bracketNumber, bracketRgb, darkAfter, lightAfter, ratioAfter, pickNumber, pickRooms, chosenAfter};
 
 // The Oklab colour of a colour.
 #[no_mangle]
@@ -107,10 +125,202 @@ pub extern "C" fn badge_lerp(
     b: u8,
     clamp: u32,
 ) -> f32
-    ensures { λ t. ⌜ t ≡ lerpOf (normalized r1 g1 b1) (normalized r2 g2 b2) (normalized r g b) (not (eqb clamp 0)) ⌝ }
+    ensures { λ t. ⌜ t ≡ lerpOf (opaqueRgb r1 g1 b1) (opaqueRgb r2 g2 b2) (opaqueRgb r g b) (not (eqb clamp 0)) ⌝ }
 {
     let c1 = NormalizedColor::new(r1, g1, b1, 255);
     let c2 = NormalizedColor::new(r2, g2, b2, 255);
     let color = NormalizedColor::new(r, g, b, 255);
     mixing::lerp(c1, c2, color, clamp != 0)
+}
+
+// ---- lookups over flat lists: four reduced and four normalised bytes an entry, and three f32 of Oklab
+
+// The position of the nearest entry; 3, 4 and 6.
+#[no_mangle]
+pub extern "C" fn badge_nearest(
+    reduced: &[u8],
+    normalized: &[u8],
+    oklab: &[f32],
+    r: u8,
+    g: u8,
+    b: u8,
+    position: &mut u32,
+) -> u32
+    ensures { λ n. ⌜ (n ≡ nearestNumber (nearestRgb (now (reduced .entry)) (now (normalized .entry)) (now (oklab .entry)) r g b))
+        × (now (position .exit) ≡ positionAfter (nearestRgb (now (reduced .entry)) (now (normalized .entry)) (now (oklab .entry)) r g b) (now (position .entry))) ⌝ }
+{
+    let color = NormalizedColor::new(r, g, b, 255);
+    match lookup::flat_nearest(reduced, normalized, oklab, color) {
+        Found::At(k) => {
+            *position = k as u32;
+            0
+        }
+        Found::Refused(number) => number as u32,
+    }
+}
+
+// The position of the second, and that of the first where there is none.
+fn second_of(two: Two) -> usize
+    ensures { λ k. ⌜ k ≡ secondOf two ⌝ }
+{
+    let second = two.second;
+    match second {
+        Second::At(k) => k,
+        Second::Nothing => two.first,
+    }
+}
+
+// The positions of the nearest entry and of the second; 3, 4 and 6.
+#[no_mangle]
+pub extern "C" fn badge_nearest_two(
+    reduced: &[u8],
+    normalized: &[u8],
+    oklab: &[f32],
+    r: u8,
+    g: u8,
+    b: u8,
+    width: u64,
+    first: &mut u32,
+    second: &mut u32,
+) -> u32
+    ensures { λ n. ⌜ (n ≡ nearestTwoNumber (nearestTwoRgb (now (reduced .entry)) (now (normalized .entry)) (now (oklab .entry)) r g b width))
+        × (now (first .exit) ≡ firstAfter (nearestTwoRgb (now (reduced .entry)) (now (normalized .entry)) (now (oklab .entry)) r g b width) (now (first .entry)))
+        × (now (second .exit) ≡ secondAfter (nearestTwoRgb (now (reduced .entry)) (now (normalized .entry)) (now (oklab .entry)) r g b width) (now (second .entry))) ⌝ }
+{
+    let color = NormalizedColor::new(r, g, b, 255);
+    match lookup::flat_nearest_two(reduced, normalized, oklab, color, width) {
+        FoundTwo::At(two) => {
+            let nearest = two.first as u32;
+            let other = second_of(two) as u32;
+            *first = nearest;
+            *second = other;
+            0
+        }
+        FoundTwo::Refused(number) => number as u32,
+    }
+}
+
+// The colour that four bytes are. No public call: the caller sees to the length.
+fn color_in(bytes: &[u8]) -> ReducedColor
+    requires { ⌜ length (now bytes) ≡ 4 ⌝ }
+    ensures { λ c. ⌜ c ≡ reducedAt (now (bytes .entry)) 0 ⌝ }
+{
+    ReducedColor(rgba_at(bytes, 0))
+}
+
+// Hands a colour over as four bytes. No public call: the caller sees to the length.
+fn put_color(bytes: &mut [u8], color: ReducedColor)
+    requires { ⌜ length (now bytes) ≡ 4 ⌝ }
+    ensures { λ _. ⌜ now (bytes .exit) ≡ bytesOf (color .0) ⌝ }
+{
+    put_rgba(bytes, 0, color.0);
+}
+
+// The two colours that an ordered dither alternates between, and the share of the lighter; 3, 4 and 6.
+#[no_mangle]
+pub extern "C" fn badge_ordered_bracket(
+    reduced: &[u8],
+    normalized: &[u8],
+    oklab: &[f32],
+    r: u8,
+    g: u8,
+    b: u8,
+    width: u64,
+    dark: &mut [u8],
+    light: &mut [u8],
+    ratio: &mut f32,
+) -> u32
+    ensures { λ n. ⌜ (n ≡ bracketNumber (bracketRgb (now (reduced .entry)) (now (normalized .entry)) (now (oklab .entry)) r g b width (now (dark .entry)) (now (light .entry))))
+        × (now (dark .exit) ≡ darkAfter (bracketRgb (now (reduced .entry)) (now (normalized .entry)) (now (oklab .entry)) r g b width (now (dark .entry)) (now (light .entry))) (now (dark .entry)))
+        × (now (light .exit) ≡ lightAfter (bracketRgb (now (reduced .entry)) (now (normalized .entry)) (now (oklab .entry)) r g b width (now (dark .entry)) (now (light .entry))) (now (light .entry)))
+        × (now (ratio .exit) ≡ ratioAfter (bracketRgb (now (reduced .entry)) (now (normalized .entry)) (now (oklab .entry)) r g b width (now (dark .entry)) (now (light .entry))) (now (ratio .entry))) ⌝ }
+{
+    if !((dark.len() == 4) & (light.len() == 4)) {
+        return 3;
+    }
+    let color = NormalizedColor::new(r, g, b, 255);
+    match lookup::flat_ordered_bracket(reduced, normalized, oklab, color, width) {
+        FoundBracket::Of(bracket) => {
+            put_color(dark, bracket.dark);
+            put_color(light, bracket.light);
+            *ratio = bracket.ratio;
+            0
+        }
+        FoundBracket::Refused(number) => number as u32,
+    }
+}
+
+// What is picked of two colours at column x and row y; 1, 3 and 9.
+#[no_mangle]
+pub extern "C" fn badge_pick(
+    dark: &[u8],
+    light: &[u8],
+    ratio: f32,
+    kind: u32,
+    x: u32,
+    y: u32,
+    chosen: &mut [u8],
+) -> u32
+    ensures { λ n. ⌜ (n ≡ pickNumber (pickRooms (now (dark .entry)) (now (light .entry)) ratio kind x y (now (chosen .entry))))
+        × (now (chosen .exit) ≡ chosenAfter (pickRooms (now (dark .entry)) (now (light .entry)) ratio kind x y (now (chosen .entry))) (now (chosen .entry))) ⌝ }
+{
+    if kind > 10 {
+        return 1;
+    }
+    if !((dark.len() == 4) & ((light.len() == 4) & (chosen.len() == 4))) {
+        return 3;
+    }
+    let bracket = Bracket {
+        dark: color_in(dark),
+        light: color_in(light),
+        ratio: ratio,
+    };
+    match lookup::pick(bracket, kind, x, y) {
+        Picked::Color(color) => {
+            put_color(chosen, color);
+            0
+        }
+        Picked::Refused(number) => number as u32,
+    }
+}
+
+// ---- pictures
+
+// Quantizes a picture to a palette; 1, 2, 3 and 4.
+#[no_mangle]
+pub extern "C" fn badge_quantize_pixels(
+    shift: u32,
+    kind: u32,
+    width: u32,
+    height: u32,
+    reduction: &[u8],
+    scale: &[u8],
+    palette: &[u8],
+    pixels: &[u8],
+    indices: &mut [u8],
+    out: &mut [u8],
+    cells: &mut [f32],
+) -> u32
+    ensures { λ n. ⌜ (let q = order shift kind width height (now (reduction .entry)) (now (scale .entry)) (now (palette .entry)) (now (pixels .entry)) in
+        (n ≡ numberFor shift kind width height (lengthsOf q (now (indices .entry)) (now (out .entry)) (now (cells .entry))))
+        × (now (indices .exit) ≡ after n (indicesOf q) (now (indices .entry)))
+        × (now (out .exit) ≡ after n (pixelsOf q) (now (out .entry)))
+        × (now (cells .exit) ≡ after n (cellsAfter (quantizing q) (now (cells .entry))) (now (cells .entry)))) ⌝ }
+{
+    match quantize::quantize_pixels(
+        shift,
+        kind,
+        width,
+        height,
+        reduction,
+        scale,
+        palette,
+        pixels,
+        indices,
+        out,
+        cells,
+    ) {
+        Reply::Accepted => 0,
+        Reply::Refused(number) => number as u32,
+    }
 }

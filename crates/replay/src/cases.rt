@@ -1,19 +1,6 @@
 // One function a call: takes a case's tokens, calls, and compares the answer and every lent buffer afterwards. A case
 // whose tokens have not the widths that its call wants differs.
-use crate::text::ANY;
-use crate::text::are_floats;
-use crate::text::byte_at;
-use crate::text::float_at;
-use crate::text::floats;
-use crate::text::is_byte;
-use crate::text::is_float;
-use crate::text::is_long;
-use crate::text::is_position;
-use crate::text::is_refusal;
-use crate::text::number;
-use crate::text::part;
-use crate::text::shaped;
-use crate::text::word;
+use crate::pictures;
 use color::Distance;
 use color::NormalizedColor;
 use color::Oklab;
@@ -27,6 +14,20 @@ use lookup::Second;
 use lookup::Two;
 use mixing::Width;
 use patterns::Thresholded;
+use recorded::ANY;
+use recorded::are_floats;
+use recorded::byte_at;
+use recorded::float_at;
+use recorded::floats;
+use recorded::is_byte;
+use recorded::is_float;
+use recorded::is_long;
+use recorded::is_position;
+use recorded::is_refusal;
+use recorded::number;
+use recorded::part;
+use recorded::shaped;
+use recorded::word;
 
 // Colour i of a list of colours without alpha.
 fn color_at(p: &[u8], i: u8) -> NormalizedColor {
@@ -231,6 +232,7 @@ pub fn same(letter: u8, room: &[u8]) -> bool {
         b'l' => lerp(room),
         b'p' => pick(room),
         b'n' | b'm' | b'b' => look_up(letter, room),
+        b'q' => pictures::quantize_pixels(room),
         _ => false,
     }
 }

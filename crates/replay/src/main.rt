@@ -2,7 +2,7 @@
 // group: its name, how many cases it has, and "same", or "differs at" and the number of the first case that differs.
 // A line of the list is a comment (#), the name of a group (g), the two lent tables for the cases after it (k), or a case.
 mod cases;
-mod text;
+mod pictures;
 
 use libc::STDIN_FILENO;
 use libc::STDOUT_FILENO;
@@ -96,23 +96,23 @@ fn told(s: State) {
 // The line of the tables, where the call is lent them.
 fn tables(list: &[u8], letter: u8, s: State) -> &[u8] {
     if cases::has_tables(letter) {
-        return text::piece(list, s.tables, s.tables_end);
+        return recorded::piece(list, s.tables, s.tables_end);
     }
-    text::piece(list, 0, 0)
+    recorded::piece(list, 0, 0)
 }
 
 // Whether our answer to a case is the recorded one. The tables are its first tokens.
 fn same(tables: &[u8], line: &[u8], letter: u8, room: &mut [u8]) -> bool {
-    text::clear(room);
-    text::decode(tables, room);
-    text::decode(line, room);
+    recorded::clear(room);
+    recorded::decode(tables, room);
+    recorded::decode(line, room);
     cases::same(letter, room)
 }
 
 // The line from `from` up to `to`.
 fn turn(list: &[u8], from: usize, to: usize, s: State, room: &mut [u8]) -> State {
-    let line = text::piece(list, from, to);
-    let letter = text::byte_at(line, 0);
+    let line = recorded::piece(list, from, to);
+    let letter = recorded::byte_at(line, 0);
     if letter == b'#' {
         return s;
     }
@@ -121,7 +121,7 @@ fn turn(list: &[u8], from: usize, to: usize, s: State, room: &mut [u8]) -> State
     }
     if letter == b'g' {
         told(s);
-        io::write_all(STDOUT_FILENO, text::piece(line, 2, line.len()));
+        io::write_all(STDOUT_FILENO, recorded::piece(line, 2, line.len()));
         return s.named();
     }
     s.counted(same(tables(list, letter, s), line, letter, room))
@@ -133,7 +133,7 @@ fn replay(list: &[u8], room: &mut [u8]) {
     while at < list.len() {
         let end = bytes::scan::find(list, at, list.len(), b'\n');
         s = turn(list, at, end, s, room);
-        at = text::past(at, end, list.len());
+        at = recorded::past(at, end, list.len());
     }
     told(s);
 }

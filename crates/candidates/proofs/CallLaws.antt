@@ -1,0 +1,136 @@
+-- The public call: what is known where no check refuses (`accepted`), and its answers: refused by a check (`call-refused`), or collected (`call-collected`).
+-- Two results that satisfy its promise are equal (`colors-only`). Assumes nothing.
+use mathlib.Core.Path.{_≡_, refl, sym, ap, _∙_}
+use mathlib.Core.Bool.{Bool, true, false, cond, not}
+use mathlib.Core.List.{List, [], _∷_, _++_}
+use Prim.Native.Nat.{ℕ, zero, suc, _*_, _/_, _%_, _≤_}
+use native.Mathlib.Omega.{arith}
+use borrow.Author.Tests.{ltb-false, eqb-true, not-false, ne-eqb}
+use lib.Dec.{ltb, eqb}
+use lib.Ieee.{Float}
+use lib.ListN.{length, replicate}
+use Rattle.lists.specs.Lowest.{Reply, _if_, lowest, after}
+use Rattle.lists.specs.Unique.{Unique}
+use Rattle.lists.proofs.Bools.{or-split}
+use Rattle.lists.proofs.LowestLaws.{NoneApplies, lowest-zero, lowest-none, lowest-at, after-refused}
+use Rattle.mixing.specs.Widths.{isShift}
+use Rattle.picture.specs.Bounds.{sizeWrong, tableWrong}
+use Rattle.candidates.specs.Rooms.{placesWith, oklabWith, tooMany, Collects}
+use Rattle.candidates.specs.Calls.{Lent, candidatesIn, lengthsOf, placesWrong, lengthsWrong, checks, replies, numberOf, answerOf, placesAfter, oklabAfter, CandidateColors}
+use Rattle.candidates.specs.declared.Lengths.{Lengths}
+use Rattle.candidates.specs.declared.Collected.{Collected}
+use Rattle.candidates.specs.declared.Collected.the-variants as collected
+use Rattle.candidates.specs.declared.CandidateCount.{CandidateCount}
+use Rattle.candidates.specs.declared.CandidateCount.the-variants.{Count, Refused}
+
+-- ---- what the checks leave
+pub size-within : (width height : ℕ) → sizeWrong width height ≡ false → width * height ≤ 1048576
+unfolding sizeWrong
+size-within width height e =
+    ltb-false 1048576 (width * height) (or-split (ltb 4096 height) (ltb 1048576 (width * height)) (or-split (ltb 4096 width) _ e .1) .1)
+
+pub record Ready (n : ℕ) (lent : Lengths) : Type 0 where
+  pub size : n ≤ 1048576
+  pub reduction : lent .reduction ≡ 256
+  pub scale : lent .scale ≡ 256
+  pub pixels : lent .pixels ≡ 4 * n
+  pub places : lent .places ≤ 262144
+  pub oklab : lent .oklab ≡ 3 * (lent .places / 4)
+
+pub accepted : (shift width height : ℕ) (lent : Lengths) → lowest (checks shift width height lent) ≡ 0 → Ready (width * height) lent
+unfolding lengthsWrong placesWrong tableWrong
+accepted shift width height lent e =
+    let none = lowest-none (checks shift width height lent) tt e in
+    let a = or-split (tableWrong (lent .reduction)) _ (none .1 .1 .0) in
+    let b = or-split (tableWrong (lent .scale)) _ (a .1) in
+    let d = or-split (not (eqb (lent .pixels) (4 * (width * height)))) _ (b .1) in
+    let f = or-split (placesWrong (lent .places)) _ (d .1) in
+    let g = or-split (not (eqb (lent .places % 4) 0)) (ltb 262144 (lent .places)) (f .0) in
+    record {
+      size = size-within width height (none .1 .0);
+      reduction = same (lent .reduction) 256 (a .0);
+      scale = same (lent .scale) 256 (b .0);
+      pixels = same (lent .pixels) (4 * (width * height)) (d .0);
+      places = ltb-false 262144 (lent .places) (g .1);
+      oklab = same (lent .oklab) (3 * (lent .places / 4)) (f .1);
+    }
+  where
+    same : (x y : ℕ) → not (eqb x y) ≡ false → x ≡ y
+    same x y e = eqb-true x y (not-false (eqb x y) e)
+
+-- ---- the lowest of some replies, and of more behind them
+lowest-front : (xs ys : List Reply) → (lowest xs ≡ 0 → ⊥) → lowest (xs ++ ys) ≡ lowest xs
+lowest-front [] ys n = absurd (n refl)
+lowest-front (x ∷ xs) ys n = go (x .applies) n (lowest-front xs ys)
+  where
+    go : (t : Bool) → (cond t (x .number) (lowest xs) ≡ 0 → ⊥) → ((lowest xs ≡ 0 → ⊥) → lowest (xs ++ ys) ≡ lowest xs) → cond t (x .number) (lowest (xs ++ ys)) ≡ cond t (x .number) (lowest xs)
+    go true n later = refl
+    go false n later = later n
+
+small : (s t u : Bool) → cond s 1 (cond t 2 (cond u 3 0)) ≤ 3
+small true t u = omega arith
+small false true u = omega arith
+small false false true = omega arith
+small false false false = omega arith
+
+-- ---- the answers
+abbrev answer-from : Collected → CandidateCount
+answer-from (collected.Count n) = Count n
+answer-from collected.TooMany = Refused 7
+
+module _ (x : Lent) where
+  abbrev before : List Reply
+  before = checks (x .shift) (x .width) (x .height) (lengthsOf x)
+
+  -- 7, which comes behind the checks
+  abbrev seven : Reply
+  seven = 7 if tooMany (candidatesIn x) (x .places)
+
+  -- by the number
+  call-is : {r : CandidateCount} {places : List ℕ} {oklab : List Float} (n : ℕ) → lowest (replies x) ≡ n → numberOf r ≡ n → r ≡ answerOf n x → places ≡ placesAfter n x → oklab ≡ oklabAfter n x
+      → CandidateColors x r places oklab
+  call-is n l number answer bytes floats = record {
+    number = number ∙ sym l;
+    answer = answer ∙ ap (λ (m : ℕ). answerOf m x) (sym l);
+    bytes = bytes ∙ ap (λ (m : ℕ). placesAfter m x) (sym l);
+    floats = floats ∙ ap (λ (m : ℕ). oklabAfter m x) (sym l);
+  }
+
+  pub call-refused : {r : ℕ} → r ≡ lowest (checks (x .shift) (x .width) (x .height) (lengthsOf x)) → (r ≡ 0 → ⊥) → CandidateColors x (Refused r) (x .places) (x .oklab)
+  call-refused {r} e n =
+      call-is r (lowest-front before (seven ∷ []) (λ z. n (e ∙ z)) ∙ sym e) refl (refused r n)
+      (after-refused r (placesWith (candidatesIn x) (x .places)) (x .places) n
+      ∙ ap (λ (b : Bool). cond b (replicate (length (x .places)) 0) (after r (placesWith (candidatesIn x) (x .places)) (x .places))) (sym (ne-eqb r 7 not-seven)))
+      (after-refused r (oklabWith (x .scale) (candidatesIn x) (x .oklab)) (x .oklab) n)
+    where
+      refused : (r : ℕ) → (r ≡ 0 → ⊥) → Refused r ≡ answerOf r x
+      refused zero n = absurd (n refl)
+      refused (suc r) n = refl
+
+      not-seven : r ≡ 7 → ⊥
+      not-seven q = omega (arith, small (not (isShift (x .shift))) (sizeWrong (x .width) (x .height)) (lengthsWrong (x .width * x .height) (lengthsOf x)))
+
+  pub call-collected : lowest (checks (x .shift) (x .width) (x .height) (lengthsOf x)) ≡ 0 → {r s : Collected} {places : List ℕ} {oklab : List Float}
+      → Collects (candidatesIn x) (x .scale) (x .places) (x .oklab) s places oklab → s ≡ r → CandidateColors x (answer-from r) places oklab
+  call-collected free {r} {s} {places} {oklab} p same = go (tooMany (candidatesIn x) (x .places)) refl
+    where
+      none : NoneApplies before
+      none = lowest-none before tt free
+
+      answer : {t : Bool} → tooMany (candidatesIn x) (x .places) ≡ t → r ≡ cond t collected.TooMany (collected.Count (length (candidatesIn x)))
+      answer t = sym same ∙ p .answer ∙ ap (λ (b : Bool). cond b collected.TooMany (collected.Count (length (candidatesIn x)))) t
+
+      bytes : {t : Bool} → tooMany (candidatesIn x) (x .places) ≡ t → places ≡ cond t (replicate (length (x .places)) 0) (placesWith (candidatesIn x) (x .places))
+      bytes t = p .bytes ∙ ap (λ (b : Bool). cond b (replicate (length (x .places)) 0) (placesWith (candidatesIn x) (x .places))) t
+
+      floats : {t : Bool} → tooMany (candidatesIn x) (x .places) ≡ t → oklab ≡ cond t (x .oklab) (oklabWith (x .scale) (candidatesIn x) (x .oklab))
+      floats t = p .floats ∙ ap (λ (b : Bool). cond b (x .oklab) (oklabWith (x .scale) (candidatesIn x) (x .oklab))) t
+
+      go : (t : Bool) → tooMany (candidatesIn x) (x .places) ≡ t → CandidateColors x (answer-from r) places oklab
+      go true t = call-is 7 (lowest-at before seven [] none t) (ap (λ (q : Collected). numberOf (answer-from q)) (answer t)) (ap answer-from (answer t)) (bytes t) (floats t)
+      go false t =
+          call-is 0 (lowest-zero (replies x) (none .0, (none .1 .0, (none .1 .1 .0, (t, tt))))) (ap (λ (q : Collected). numberOf (answer-from q)) (answer t)) (ap answer-from (answer t)) (bytes t) (floats t)
+
+  -- ---- one result
+  pub colors-only : Unique (λ (y : CandidateCount × List ℕ × List Float). CandidateColors x (y .0) (y .1) (y .2))
+  colors-only y z p q = λ i. ((p .answer ∙ sym (q .answer)) i, (p .bytes ∙ sym (q .bytes)) i, (p .floats ∙ sym (q .floats)) i)

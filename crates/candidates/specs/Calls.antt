@@ -1,0 +1,79 @@
+-- What `candidate_colors_in` answers, and what its rooms hold afterwards. Definitions only.
+-- Written from document 01, "Bounds and replies": the rows 1, 2, 3 and 7 of its table, "Candidate places 0..65,536, four bytes each, with three f32
+-- each beside them", "Buffers have exactly the length needed", "The lowest number that applies is given".
+use Prim.Native.Nat.{ℕ, zero, suc, _*_, _/_, _%_}
+use mathlib.Core.Path.{_≡_}
+use mathlib.Core.Bool.{Bool, cond, not, _||_}
+use mathlib.Core.List.{List, [], _∷_, _++_}
+use lib.Dec.{ltb, eqb}
+use lib.Ieee.{Float}
+use lib.ListN.{length, replicate}
+use Rattle.color.specs.declared.ReducedColor.{ReducedColor}
+use Rattle.lists.specs.Lowest.{Reply, _if_, lowest, after}
+use Rattle.mixing.specs.Widths.{isShift}
+use Rattle.picture.specs.Bounds.{sizeWrong, tableWrong}
+use Rattle.candidates.specs.Candidates.{candidatesOf}
+use Rattle.candidates.specs.Rooms.{placesWith, oklabWith, tooMany}
+use Rattle.candidates.specs.declared.Lengths.{Lengths}
+use Rattle.candidates.specs.declared.CandidateCount.{CandidateCount}
+use Rattle.candidates.specs.declared.CandidateCount.the-variants.{Count, Refused}
+
+-- what is lent to the call
+pub record Lent : Type 0 where
+  pub shift : ℕ
+  pub width : ℕ
+  pub height : ℕ
+  pub reduction : List ℕ
+  pub scale : List ℕ
+  pub pixels : List ℕ
+  pub places : List ℕ
+  pub oklab : List Float
+
+-- the picture's candidates
+unfoldable pub candidatesIn : Lent → List ReducedColor
+candidatesIn x = candidatesOf (x .reduction) (x .pixels) (x .width * x .height)
+
+abbrev pub lengthsOf : Lent → Lengths
+lengthsOf x = record { reduction = length (x .reduction); scale = length (x .scale); pixels = length (x .pixels); places = length (x .places); oklab = length (x .oklab) }
+
+-- places that are no whole colours, or more than 65,536
+unfoldable pub placesWrong : ℕ → Bool
+placesWrong bytes = not (eqb (bytes % 4) 0) || ltb 262144 bytes
+
+-- a table, the pixels or a room has another length than n pixels need
+unfoldable pub lengthsWrong : ℕ → Lengths → Bool
+lengthsWrong n lent =
+    tableWrong (lent .reduction)
+    || (tableWrong (lent .scale) || (not (eqb (lent .pixels) (4 * n)) || (placesWrong (lent .places) || not (eqb (lent .oklab) (3 * (lent .places / 4))))))
+
+-- the refusals that need no look at a pixel, and all of them
+abbrev pub checks : ℕ → ℕ → ℕ → Lengths → List Reply
+checks shift width height lent = 1 if not (isShift shift) ∷ 2 if sizeWrong width height ∷ 3 if lengthsWrong (width * height) lent ∷ []
+
+abbrev pub replies : Lent → List Reply
+replies x = checks (x .shift) (x .width) (x .height) (lengthsOf x) ++ 7 if tooMany (candidatesIn x) (x .places) ∷ []
+
+-- document 01's number of an answer
+abbrev pub numberOf : CandidateCount → ℕ
+numberOf (Count n) = 0
+numberOf (Refused n) = n
+
+-- the answer with number r
+abbrev pub answerOf : ℕ → Lent → CandidateCount
+answerOf zero x = Count (length (candidatesIn x))
+answerOf (suc r) x = Refused (suc r)
+
+-- the places after number r: the candidates; all 0 after 7; else as they were
+abbrev pub placesAfter : ℕ → Lent → List ℕ
+placesAfter r x = cond (eqb r 7) (replicate (length (x .places)) 0) (after r (placesWith (candidatesIn x) (x .places)) (x .places))
+
+-- and the floats beside them
+abbrev pub oklabAfter : ℕ → Lent → List Float
+oklabAfter r x = after r (oklabWith (x .scale) (candidatesIn x) (x .oklab)) (x .oklab)
+
+-- what `candidate_colors_in` promises: the answer, with the lowest number that applies, and both rooms afterwards
+pub record CandidateColors (x : Lent) (r : CandidateCount) (places : List ℕ) (oklab : List Float) : Type 0 where
+  pub number : numberOf r ≡ lowest (replies x)
+  pub answer : r ≡ answerOf (lowest (replies x)) x
+  pub bytes : places ≡ placesAfter (lowest (replies x)) x
+  pub floats : oklab ≡ oklabAfter (lowest (replies x)) x

@@ -1,0 +1,11 @@
+-- The laws of `dither`.
+pub mod Unique
+pub mod PixelLaws
+pub mod BudgetLaws
+pub mod AnswerLaws
+pub mod NumberLaws
+mod PieceLaws
+pub mod CandidateLaws
+pub mod DrawnLaws
+mod FinishLaws
+mod CallLaws

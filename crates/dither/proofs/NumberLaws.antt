@@ -1,0 +1,99 @@
+-- What the number says: it is the lowest that applies (`number-is`), and where no check refuses, all sizes and lengths fit (`accepted`).
+-- Assumes nothing.
+use mathlib.Core.Path.{_≡_, _∙_}
+use mathlib.Core.Bool.{false, not}
+use Prim.Native.Nat.{ℕ, _*_, _/_, _%_, _≤_}
+use native.Mathlib.Omega.{arith}
+use borrow.Author.Tests.{ltb-false, eqb-true, eqb-false, not-false}
+use lib.Dec.{eqb, ltb}
+use lib.ListN.{length}
+use Rattle.lists.specs.Lowest.{Lowest, lowest}
+use Rattle.lists.proofs.Bools.{or-split}
+use Rattle.lists.proofs.LowestLaws.{lowest-none, lowest-is}
+use Rattle.picture.specs.Bounds.{sizeWrong, originWrong, tableWrong, sideWrong}
+use Rattle.candidates.specs.Calls.{placesWrong}
+use Rattle.dither.specs.declared.Settings.{Settings}
+use Rattle.dither.specs.Mode.{Order, Buffers, size, lengthsOf, modeWrong, boundsWrong, cellsNeeded, roomsWrong, lengthsWrong, budgetWrong, checks, replies, numberFor}
+use Rattle.dither.specs.Steps.{Fitting}
+
+pub number-is : (q : Order) (b : Buffers) → Lowest (replies q b) (numberFor q b)
+unfolding numberFor
+number-is q b = lowest-is (replies q b) tt
+
+-- a length that is not wrong
+right : (m n : ℕ) → not (eqb m n) ≡ false → m ≡ n
+right m n e = eqb-true m n (not-false _ e)
+
+pub sized : (width height : ℕ) → sizeWrong width height ≡ false → (width ≤ 4096) × (height ≤ 4096) × (width * height ≤ 1048576)
+unfolding sizeWrong
+sized width height e =
+    let a = or-split (ltb 4096 width) _ e in
+    let b = or-split (ltb 4096 height) _ (a .1) in
+    (ltb-false 4096 width (a .0), ltb-false 4096 height (b .0), ltb-false 1048576 (width * height) (b .1))
+
+-- the picture's size, where its bounds are not wrong
+pub bounded : (s : Settings) → boundsWrong s ≡ false → s .width * s .height ≤ 1048576
+unfolding boundsWrong
+bounded s e = sized (s .width) (s .height) (or-split (sizeWrong (s .width) (s .height)) _ e .0) .2
+
+side : (n : ℕ) → sideWrong n ≡ false → (1 ≤ n) × (n ≤ 4096)
+unfolding sideWrong
+side n e =
+    let a = or-split (eqb n 0) _ e in
+    let h = eqb-false n 0 (a .0) in
+    (omega arith, ltb-false 4096 n (a .1))
+
+module _ (q : Order) (b : Buffers) (e : lowest (checks (q .settings) (lengthsOf q b)) ≡ 0) where
+  pub accepted : Fitting q (b .out) (b .cells)
+  unfolding modeWrong boundsWrong lengthsWrong budgetWrong originWrong tableWrong cellsNeeded
+  accepted =
+      let s = q .settings in
+      let l = lengthsOf q b in
+      let n = size q in
+      let none = lowest-none (checks s l) tt e in
+      let mode = or-split (ltb 10 (s .kind)) _ (none .0) in
+      let b1 = or-split (sizeWrong (s .width) (s .height)) _ (none .1 .0) in
+      let b2 = or-split (originWrong (s .«origin_x») (s .width)) _ (b1 .1) in
+      let bounds = sized (s .width) (s .height) (b1 .0) in
+      let l1 = or-split (tableWrong (l .reduction)) _ (none .1 .1 .0) in
+      let l2 = or-split (tableWrong (l .scale)) _ (l1 .1) in
+      let l3 = or-split (not (eqb (l .pixels) (4 * n))) _ (l2 .1) in
+      let l4 = or-split (roomsWrong (l .places) (l .oklab)) _ (l3 .1) in
+      let l5 = or-split (not (eqb (l .out) (4 * n))) _ (l4 .1) in
+      let t1 = or-split (sideWrong (s .«tile_width»)) _ (none .1 .1 .1 .0) in
+      let t2 = or-split (sideWrong (s .«tile_height»)) _ (t1 .1) in
+      let across = side (s .«tile_width») (t1 .0) in
+      let down = side (s .«tile_height») (t2 .0) in
+      record {
+        shift = not-false _ (mode .1);
+        kind = ltb-false 10 (s .kind) (mode .0);
+        wide = bounds .0;
+        high = bounds .1;
+        small = bounds .2;
+        across = ltb-false 4294967295 _ (b2 .0);
+        down = ltb-false 4294967295 _ (b2 .1);
+        reduction = right _ _ (l1 .0);
+        scale = right _ _ (l2 .0);
+        pixels = right _ _ (l3 .0);
+        out-long = right _ _ (l5 .0);
+        cells-long = λ d. right _ _ (l5 .1) ∙ rw d;
+        some-wide = across .0;
+        tile-wide = across .1;
+        some-high = down .0;
+        tile-high = down .1;
+        few = ltb-false 256 (s .limit) (t2 .1);
+      }
+
+  -- the rooms: at most 65,536 places, and three floats a place
+  pub roomy : (length (b .places) ≤ 262144) × (length (b .oklab) ≡ 3 * (length (b .places) / 4))
+  unfolding lengthsWrong roomsWrong placesWrong
+  roomy =
+      let l = lengthsOf q b in
+      let none = lowest-none (checks (q .settings) l) tt e in
+      let l1 = or-split (tableWrong (l .reduction)) _ (none .1 .1 .0) in
+      let l2 = or-split (tableWrong (l .scale)) _ (l1 .1) in
+      let l3 = or-split (not (eqb (l .pixels) (4 * size q))) _ (l2 .1) in
+      let l4 = or-split (roomsWrong (l .places) (l .oklab)) _ (l3 .1) in
+      let r = or-split (placesWrong (l .places)) _ (l4 .0) in
+      let p = or-split (not (eqb (l .places % 4) 0)) (ltb 262144 (l .places)) (r .0) in
+      (ltb-false 262144 (l .places) (p .1), right _ _ (r .1))

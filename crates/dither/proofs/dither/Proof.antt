@@ -1,0 +1,117 @@
+-- `dither::dither` meets its contract: the drawn picture is judged, and then wiped or finished. Assumes nothing.
+use mathlib.Core.Path.{_≡_, _∙_, ap}
+use Prim.Native.Nat.{ℕ}
+use native.Mathlib.Omega.{arith}
+use lib.ListN.{length, replicate}
+use lib.Ieee.{ofBits, binary32}
+use Rattle.dither.specs.Mode.{Order, order}
+use Rattle.dither.proofs.DrawnLaws.{at, judgeable, finishable, finished-all}
+use Rattle.dither.proofs.BudgetLaws.{verdict, judged-over, judged-fits, judged-bytes}
+use Rattle.dither.proofs.CallLaws.{completed-over, completed}
+use borrow.Author.Needs.{needs}
+use Rattle.dither.proofs.dither.Statement.{statement}
+use Rattle.dither.proofs.dither.Tie as tie
+
+-- what was asked for, and lent
+abbrev asked : tie.Start → Order
+asked s = let a = s .args in order (a .s) (a .reduction .now) (a .scale .now) (a .pixels .now)
+
+-- where the choices are made
+abbrev start : tie.After-choose → tie.Start
+start c = c .before .before .before .before .before .before .before .before .before .before
+
+-- the answer of judging is that of the choices
+judged : (c : tie.After-judge) → c .judge .result ≡ verdict (asked (start (c .before .before .before .before .before .before)))
+judged c =
+    let k = c .before .before .before .before .before .before in
+    let s = start k in
+    c .judge .ensures ∙ judged-bytes (asked s) _ (at (asked s) (s .pre .0) _ (k .choose .ensures .0))
+
+choose-requires : tie.Need-choose-requires
+choose-requires c κs = search needs
+
+judge-requires : tie.Need-judge-requires
+judge-requires c κs =
+    let k = c .before .before .before .before .before in
+    let s = start k in
+    judgeable (asked s) (s .pre .0) _ (k .choose .ensures .0)
+
+cast-counted : tie.Need-cast-counted
+cast-counted c = let h = start (c .before .before .before .before .before .before) .pre .2 in omega arith
+
+enum-known-verdict : tie.Need-enum-known-verdict
+enum-known-verdict c = search needs
+
+wipe-requires : tie.Need-wipe-requires
+wipe-requires c κs = search needs
+
+same-length : tie.Need-same-length
+same-length c = search needs
+
+same-length-2 : tie.Need-same-length-2
+same-length-2 c = search needs
+
+returns : tie.Need-returns
+returns c =
+    let w = c .before .before .before .before .wipe .ensures in
+    let j = c .before .before .before .before .before .before .before .before .before .before in
+    let k = c .before .before .before .before .before .before .before .before .before .before .before .before .before .before .before .before in
+    let s = start k in
+    let out : length (k .choose .last .1 .1 .1 .1 .1 .1 .1 .0) ≡ length (s .args .out .now) = omega arith in
+    let cells : length (k .choose .last .1 .1 .1 .1 .1 .1 .1 .1 .0) ≡ length (s .args .cells .now) = omega arith in
+    completed-over (asked s) (s .pre .1 .counted) _ (judged-over (asked s) (judged j) _ (c .before .before .before .before .before .before .before .before .verdict .given .1))
+    (w .0 ∙ ap (λ (n : ℕ). replicate n 0) out) (w .1 ∙ ap (λ (n : ℕ). replicate n (ofBits binary32 0)) cells)
+
+enum-told : tie.Need-enum-told
+enum-told c = search needs
+
+cast-normalize : tie.Need-cast-normalize
+cast-normalize c = search needs
+
+cast-normalize-2 : tie.Need-cast-normalize-2
+cast-normalize-2 c = search needs
+
+mul-normalize : tie.Need-mul-normalize
+mul-normalize c = let h = start (c .before .before .before .before .before .before .before .before .before .before) .pre .0 .small in omega arith
+
+normalize-requires : tie.Need-normalize-requires
+normalize-requires c κs =
+    let k = c .before .before .before .before .before .before .before .before .before .before .before in
+    let s = start k in
+    finishable (asked s) (s .pre .0) _ (k .choose .ensures .0)
+
+same-length-3 : tie.Need-same-length-3
+same-length-3 c = search needs
+
+same-length-4 : tie.Need-same-length-4
+same-length-4 c = search needs
+
+returns-2 : tie.Need-returns-2
+returns-2 c =
+    let t = c .before .before .before .before .before .before in
+    let j = c .before .before .before .before .before .before .before .before in
+    let k = c .before .before .before .before .before .before .before .before .before .before .before .before .before .before in
+    let s = start k in
+    completed (asked s) (s .pre .1 .counted) (judged-fits (asked s) (judged j) (t .enum-told .given .1))
+    (c .before .before .normalize .ensures ∙ finished-all (asked s) (s .pre .0) _ (k .choose .ensures .0)) (k .choose .ensures .1)
+
+pub dither-spec : {M : Type 1} → statement M
+dither-spec =
+    tie.close
+    (tie.spec
+    choose-requires
+    judge-requires
+    cast-counted
+    enum-known-verdict
+    wipe-requires
+    same-length
+    same-length-2
+    returns
+    enum-told
+    cast-normalize
+    cast-normalize-2
+    mul-normalize
+    normalize-requires
+    same-length-3
+    same-length-4
+    returns-2)

@@ -1,0 +1,123 @@
+-- `dither::dither_to_mode` meets its contract: a check refuses before any store, the candidates are too many, or the picture is dithered.
+-- Assumes nothing.
+use mathlib.Core.Path.{_≡_, sym, _∙_}
+use native.Mathlib.Omega.{arith}
+use Rattle.lists.specs.Lowest.{lowest}
+use Rattle.candidates.proofs.RoomLaws.{count-within}
+use Rattle.dither.specs.Mode.{Order, Buffers, order, buffers, candidateList, lengthsOf, checks}
+use Rattle.dither.proofs.NumberLaws.{accepted, roomy}
+use Rattle.dither.proofs.CandidateLaws.{collected, uncollected, roomed}
+use Rattle.dither.proofs.CallLaws.{call-refused, call-full, call-completed}
+use borrow.Author.Needs.{needs}
+use Rattle.dither.proofs.dither_to_mode.Statement.{statement}
+use Rattle.dither.proofs.dither_to_mode.Tie as tie
+
+-- what was asked for, and lent to be read; and what was lent to be written
+abbrev asked : tie.Start → Order
+asked s = let a = s .args in order (a .settings) (a .reduction .now) (a .scale .now) (a .pixels .now)
+
+abbrev held : tie.Start → Buffers
+held s = let a = s .args in buffers (a .places .now) (a .oklab .now) (a .out .now) (a .cells .now)
+
+-- past the checks
+abbrev start : tie.Else1 → tie.Start
+start c = c .before .before .before .before .before .before .before .before .before
+
+free : (c : tie.Else1) → lowest (checks (asked (start c) .settings) (lengthsOf (asked (start c)) (held (start c)))) ≡ 0
+free c = sym (c .before .refusal .ensures) ∙ c .if1 .left
+
+refusal-requires : tie.Need-refusal-requires
+refusal-requires c κs = search needs
+
+returns : tie.Need-returns
+returns c = let s = c .before .before .before .before .before .before .before .before .before in call-refused (asked s) (held s) (c .before .refusal .ensures) (c .if1 .taken)
+
+cast-size : tie.Need-cast-size
+cast-size c = search needs
+
+cast-size-2 : tie.Need-cast-size-2
+cast-size-2 c = search needs
+
+mul-size : tie.Need-mul-size
+mul-size c =
+    let e = c .before .before in
+    let h = accepted (asked (start e)) (held (start e)) (free e) .small in
+    omega arith
+
+collect-candidates-requires : tie.Need-collect-candidates-requires
+collect-candidates-requires c κs =
+    let e = c .before .before .before .before in
+    let w = accepted (asked (start e)) (held (start e)) (free e) in
+    let r = roomy (asked (start e)) (held (start e)) (free e) in
+    (w .reduction, w .scale, omega (arith, w .pixels), omega (arith, r .1))
+
+enum-known-count : tie.Need-enum-known-count
+enum-known-count c = search needs
+
+enum-told : tie.Need-enum-told
+enum-told c = search needs
+
+same-length : tie.Need-same-length
+same-length c = search needs
+
+same-length-2 : tie.Need-same-length-2
+same-length-2 c = search needs
+
+returns-2 : tie.Need-returns-2
+returns-2 c =
+    let e = c .before .before .before .before .before .before .before .before .before .before .before in
+    let s = start e in
+    let u = uncollected (c .before .before .before .before .before .before .collect-candidates .ensures) (c .enum-told .given .1) in
+    call-full (asked s) (held s) (free e) (u .0) (u .1) (u .2)
+
+dither-requires : tie.Need-dither-requires
+dither-requires c κs =
+    let k = c .before .before .before .before .before .before .before .before .before .before .before .collect-candidates .ensures in
+    let n = c .before .before .before .before .before .count .given .1 in
+    let e = c .before .before .before .before .before .before .before .before .before .before .before .before .before .before .before .before in
+    let s = start e in
+    let r = roomy (asked s) (held s) (free e) in
+    (accepted (asked s) (held s) (free e), roomed (asked s) k n (r .1), omega (arith, r .0, count-within {cs = candidateList (asked s)} k n))
+
+same-length-3 : tie.Need-same-length-3
+same-length-3 c = search needs
+
+same-length-4 : tie.Need-same-length-4
+same-length-4 c = search needs
+
+same-length-5 : tie.Need-same-length-5
+same-length-5 c = search needs
+
+same-length-6 : tie.Need-same-length-6
+same-length-6 c = search needs
+
+returns-3 : tie.Need-returns-3
+returns-3 c =
+    let d = c .before .before .before .before in
+    let a = d .before in
+    let e = a .before .before .before .before .before .before .before .before .before .before .before .before .before .before .before .before in
+    let s = start e in
+    let u = collected (a .before .before .before .before .before .before .before .before .before .before .before .collect-candidates .ensures) _ (a .before .before .before .before .before .count .given .1) in
+    call-completed (asked s) (held s) (free e) (u .0) (u .2) (u .3) (d .dither .ensures)
+
+pub dither-to-mode-spec : {M : Type 1} → statement M
+dither-to-mode-spec =
+    tie.close
+    (tie.spec
+    refusal-requires
+    returns
+    cast-size
+    cast-size-2
+    mul-size
+    collect-candidates-requires
+    enum-known-count
+    enum-told
+    same-length
+    same-length-2
+    returns-2
+    dither-requires
+    same-length-3
+    same-length-4
+    same-length-5
+    same-length-6
+    returns-3)

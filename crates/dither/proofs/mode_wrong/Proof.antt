@@ -1,0 +1,15 @@
+-- `dither::mode_wrong` meets its contract: its two tests are the definition's. Assumes nothing.
+use Rattle.dither.specs.Mode.{modeWrong}
+use borrow.Author.Needs.{needs}
+use Rattle.dither.proofs.mode_wrong.Statement.{statement}
+use Rattle.dither.proofs.mode_wrong.Tie as tie
+
+is-shift-requires : tie.Need-is-shift-requires
+is-shift-requires c κs = search needs
+
+returns : tie.Need-returns
+unfolding modeWrong
+returns c = cc
+
+pub mode-wrong-spec : {M : Type 1} → statement M
+mode-wrong-spec = tie.close (tie.spec is-shift-requires returns)

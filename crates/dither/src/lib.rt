@@ -1,0 +1,311 @@
+// Dithering a picture to a mode: `dither_to_mode` of src/dither.rs. The picture's candidates are collected; every pixel's
+// choice among them is drawn into the lent pixels as a reduced colour; the tiles are judged; and what keeps to the limit gets
+// its full precision.
+use candidates::Collected;
+use color::NormalizedColor;
+use color::ReducedColor;
+use drawing::ColorZero;
+use drawing::Ditherer;
+use judging::Judged;
+ghost use mathlib.Core.Path.{_≡_};
+ghost use Prim.Native.Nat.{_*_, _≤_};
+ghost use lib.ListN.{length, replicate};
+ghost use lib.Ieee.{ofBits, binary32};
+ghost use Rattle.lists.specs.Lowest.{lowest};
+ghost use Rattle.drawing.specs.Lent.{reducedBytes, cellsAfter};
+ghost use Rattle.dither.specs.Mode.{order, buffers, dithering, finished, cellsNeeded, modeWrong, boundsWrong, roomsWrong, lengthsWrong, budgetWrong, checks, DitheredToMode};
+ghost use Rattle.dither.specs.Steps.{Fitting, Roomed, Finishable, finishedBytes, Completes};
+
+// What is asked of a picture: the kind of dithering, the mode's shift, the picture's size and its origin in the source
+// picture, the tiles' sides, how many colours a tile may have, and colour zero.
+pub struct Settings {
+    pub kind: u32,
+    pub shift: u32,
+    pub width: u32,
+    pub height: u32,
+    pub origin_x: u32,
+    pub origin_y: u32,
+    pub tile_width: u32,
+    pub tile_height: u32,
+    pub limit: u32,
+    pub zero: ColorZero,
+}
+
+// What `dither_to_mode` answers: how many candidates there are; these too where a tile is over its limit, with the first
+// such tile; or the number of the refusal.
+pub enum Dithered {
+    Count(u32),
+    Over { tile: u32, count: u32 },
+    Refused(u8),
+}
+
+// How long each lent buffer is.
+pub struct Lengths {
+    pub reduction: usize,
+    pub scale: usize,
+    pub pixels: usize,
+    pub places: usize,
+    pub oklab: usize,
+    pub out: usize,
+    pub cells: usize,
+}
+
+// ---- refusals
+
+// Whether there is no such kind, or no mode with that shift.
+fn mode_wrong(kind: u32, shift: u32) -> bool
+    ensures { λ t. ⌜ t ≡ modeWrong kind shift ⌝ }
+{
+    (10 < kind) | !mixing::is_shift(shift)
+}
+
+// Whether the size is above its bound, or the picture ends too far from the source picture's corner.
+fn bounds_wrong(s: Settings) -> bool
+    ensures { λ t. ⌜ t ≡ boundsWrong s ⌝ }
+{
+    picture::size_wrong(s.width, s.height)
+        | (picture::origin_wrong(s.origin_x, s.width) | picture::origin_wrong(s.origin_y, s.height))
+}
+
+// How many error cells a picture needs: three a pixel for diffusion, else none. No public call: the caller sees to the
+// size.
+fn cells_needed(kind: u32, size: usize) -> usize
+    requires { ⌜ size ≤ 1048576 ⌝ }
+    ensures { λ n. ⌜ n ≡ cellsNeeded kind size ⌝ }
+{
+    if patterns::is_diffusion(kind) {
+        return 3 * size;
+    }
+    0
+}
+
+// Whether the places are no whole colours or too many, or the floats beside them not three a place.
+fn rooms_wrong(places: usize, oklab: usize) -> bool
+    ensures { λ t. ⌜ t ≡ roomsWrong places oklab ⌝ }
+{
+    ((places % 4 != 0) | (262144 < places)) | (oklab != 3 * (places / 4))
+}
+
+// Whether a lent length is wrong. No public call: the caller sees to the size.
+fn lengths_wrong(kind: u32, size: usize, s: Lengths) -> bool
+    requires { ⌜ size ≤ 1048576 ⌝ }
+    ensures { λ t. ⌜ t ≡ lengthsWrong kind size s ⌝ }
+{
+    picture::table_wrong(s.reduction)
+        | (picture::table_wrong(s.scale)
+            | ((s.pixels != 4 * size)
+                | (rooms_wrong(s.places, s.oklab)
+                    | ((s.out != 4 * size) | (s.cells != cells_needed(kind, size))))))
+}
+
+// Whether a tile's side or the limit is outside its bound.
+fn budget_wrong(s: Settings) -> bool
+    ensures { λ t. ⌜ t ≡ budgetWrong s ⌝ }
+{
+    picture::side_wrong(s.tile_width) | (picture::side_wrong(s.tile_height) | (256 < s.limit))
+}
+
+// The number of the refusals that need no look at a pixel: 0 where there is none, else the lowest that applies.
+fn refusal(s: Settings, lengths: Lengths) -> u8
+    ensures { λ n. ⌜ n ≡ lowest (checks s lengths) ⌝ }
+{
+    if mode_wrong(s.kind, s.shift) {
+        return 1;
+    }
+    if bounds_wrong(s) {
+        return 2;
+    }
+    let size = s.width as usize * s.height as usize;
+    if lengths_wrong(s.kind, size, lengths) {
+        return 3;
+    }
+    if budget_wrong(s) {
+        return 5;
+    }
+    0
+}
+
+// ---- choosing
+
+// Chooses every pixel's colour among the candidates at the front of the rooms, into `out` as reduced bytes. No public
+// call: the caller sees to all lengths and to the candidates.
+fn choose(
+    s: Settings,
+    reduction: &[u8],
+    scale: &[u8],
+    pixels: &[u8],
+    places: &[u8],
+    oklab: &[f32],
+    count: usize,
+    out: &mut [u8],
+    cells: &mut [f32],
+)
+    requires { ⌜ (let q = order s (now reduction) (now scale) (now pixels) in
+        Fitting q (now out) (now cells) × Roomed q (now places) (now oklab) count) ⌝ }
+    ensures { λ _. ⌜ (let d = dithering (order s (now (reduction .entry)) (now (scale .entry)) (now (pixels .entry))) in
+        (now (out .exit) ≡ reducedBytes d) × (now (cells .exit) ≡ cellsAfter d (now (cells .entry)))) ⌝ }
+{
+    let ditherer = Ditherer {
+        kind: s.kind,
+        origin_x: s.origin_x,
+        origin_y: s.origin_y,
+        width: s.width,
+        height: s.height,
+        bracket_width: mixing::width_of(s.shift, s.limit as u64),
+    };
+    let zero = s.zero;
+    let colors = &places[..4 * count];
+    let floats = &oklab[..3 * count];
+    ditherer.draw(
+        zero,
+        reduction,
+        scale,
+        pixels,
+        colors,
+        floats,
+        count,
+        out,
+        cells,
+    );
+}
+
+// ---- from reduced colours to full precision
+
+// What becomes of a pixel that chose a colour. No public call: the caller sees to the table.
+fn finished_color(scale: &[u8], opaque: bool, c: ReducedColor) -> NormalizedColor
+    requires { ⌜ length (now scale) ≡ 256 ⌝ }
+    ensures { λ n. ⌜ n ≡ finished (now (scale .entry)) opaque c ⌝ }
+{
+    if opaque {
+        return color::normalize_color(scale, c);
+    }
+    NormalizedColor::TRANSPARENT
+}
+
+// Puts each pixel's full precision form in the place of its reduced one. No public call: the caller sees to the lengths.
+fn normalize(size: usize, scale: &[u8], pixels: &[u8], out: &mut [u8])
+    requires { ⌜ Finishable (now scale) size (now pixels) (now out) ⌝ }
+    ensures { λ _. ⌜ now (out .exit) ≡ finishedBytes (now (scale .entry)) size (now (pixels .entry)) (now (out .entry)) ⌝ }
+{
+    let mut i = 0;
+    while i < size {
+        let chosen = ReducedColor(color::rgba_at(out, i));
+        let n = finished_color(scale, picture::is_opaque(pixels, i), chosen);
+        color::put_rgba(out, i, n.0);
+        i += 1;
+    }
+}
+
+// ---- the call
+
+// Sets the output pixels and the cells to 0, as they are left where a tile is over its limit.
+fn wipe(out: &mut [u8], cells: &mut [f32])
+    ensures { λ _. ⌜ (now (out .exit) ≡ replicate (length (now (out .entry))) 0) × (now (cells .exit) ≡ replicate (length (now (cells .entry))) (ofBits binary32 0)) ⌝ }
+{
+    lists::zero_bytes(out);
+    lists::zero_floats(cells);
+}
+
+// Dithers a picture that is accepted so far and whose candidates are collected. No public call: the caller sees to all
+// lengths and to the candidates.
+fn dither(
+    s: Settings,
+    reduction: &[u8],
+    scale: &[u8],
+    pixels: &[u8],
+    places: &[u8],
+    oklab: &[f32],
+    count: usize,
+    out: &mut [u8],
+    cells: &mut [f32],
+) -> Dithered
+    requires { ⌜ (let q = order s (now reduction) (now scale) (now pixels) in
+        Fitting q (now out) (now cells) × Roomed q (now places) (now oklab) count × (count ≤ 65536)) ⌝ }
+    ensures { λ r. ⌜ Completes (order s (now (reduction .entry)) (now (scale .entry)) (now (pixels .entry))) (now (out .entry)) (now (cells .entry))
+        r (now (out .exit)) (now (cells .exit)) ⌝ }
+{
+    choose(
+        s,
+        reduction,
+        scale,
+        pixels,
+        places,
+        oklab,
+        count,
+        out,
+        cells,
+    );
+    let verdict = judging::judge(
+        out,
+        pixels,
+        s.width,
+        s.height,
+        s.tile_width,
+        s.tile_height,
+        s.limit,
+    );
+    let counted = count as u32;
+    if let Judged::Over(tile) = verdict {
+        wipe(out, cells);
+        return Dithered::Over {
+            tile,
+            count: counted,
+        };
+    }
+    normalize(s.width as usize * s.height as usize, scale, pixels, out);
+    Dithered::Count(counted)
+}
+
+// Dithers a picture to a mode's colours, and judges its tiles: the rooms get the picture's candidates, `out` each pixel's
+// choice at full precision, `cells` the diffused error. Where a tile is over its limit, `out` and `cells` are 0; where there
+// are more candidates than places, the places are 0. On any other refusal all buffers are as they were.
+pub fn dither_to_mode(
+    settings: Settings,
+    reduction: &[u8],
+    scale: &[u8],
+    pixels: &[u8],
+    places: &mut [u8],
+    oklab: &mut [f32],
+    out: &mut [u8],
+    cells: &mut [f32],
+) -> Dithered
+    ensures { λ r. ⌜ DitheredToMode (order settings (now (reduction .entry)) (now (scale .entry)) (now (pixels .entry)))
+        (buffers (now (places .entry)) (now (oklab .entry)) (now (out .entry)) (now (cells .entry)))
+        r (buffers (now (places .exit)) (now (oklab .exit)) (now (out .exit)) (now (cells .exit))) ⌝ }
+{
+    let lengths = Lengths {
+        reduction: reduction.len(),
+        scale: scale.len(),
+        pixels: pixels.len(),
+        places: places.len(),
+        oklab: oklab.len(),
+        out: out.len(),
+        cells: cells.len(),
+    };
+    let number = refusal(settings, lengths);
+    if number != 0 {
+        return Dithered::Refused(number);
+    }
+    let size = settings.width as usize * settings.height as usize;
+    let Collected::Count(count) = candidates::collect_candidates(
+        reduction,
+        scale,
+        pixels,
+        size,
+        places,
+        oklab,
+    ) else {
+        return Dithered::Refused(7);
+    };
+    dither(
+        settings,
+        reduction,
+        scale,
+        pixels,
+        places,
+        oklab,
+        count,
+        out,
+        cells,
+    )
+}

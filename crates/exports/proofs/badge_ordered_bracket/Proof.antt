@@ -1,0 +1,76 @@
+-- `exports::badge_ordered_bracket` meets its contract: 3 where dark or light is not four bytes, else the answer's case decides. Assumes nothing.
+use mathlib.Core.Path.{_∙_}
+use lib.ListN.{length}
+use Rattle.color.specs.declared.NormalizedColor.{NormalizedColor}
+use Rattle.lookup.specs.Answers.{bracketAnswer}
+use Rattle.exports.proofs.AnswerLaws.{of-rgb}
+use Rattle.exports.proofs.LookupLaws.{bracket-by-case, both-four, bracket-lengths, bracket-four}
+use borrow.Author.Needs.{needs}
+use Rattle.exports.proofs.badge_ordered_bracket.Statement.{statement}
+use Rattle.exports.proofs.badge_ordered_bracket.Tie as tie
+
+returns : tie.Need-returns
+returns c =
+    let a = c .before .before .before .before .before .before .args in
+    bracket-by-case _ _ (a .dark .now) (a .light .now) (a .ratio .now) (bracket-lengths (a .reduced .now) (a .normalized .now) (a .oklab .now) (a .r) (a .g) (a .b) (a .width) (a .dark .now) (a .light .now) (c .if1 .taken))
+
+new-requires : tie.Need-new-requires
+new-requires c κs = search needs
+
+flat-ordered-bracket-requires : tie.Need-flat-ordered-bracket-requires
+flat-ordered-bracket-requires c κs = search needs
+
+enum-known-bracket : tie.Need-enum-known-bracket
+enum-known-bracket c = search needs
+
+put-color-requires : tie.Need-put-color-requires
+put-color-requires c κs = let a = c .before .before .before .before .before .before .before .before .before .before .before .before .args in both-four (length (a .dark .now)) (length (a .light .now)) (c .before .before .before .before .before .before .if1 .left) .0
+
+put-color-requires-2 : tie.Need-put-color-requires-2
+put-color-requires-2 c κs = let a = c .before .before .before .before .before .before .before .before .before .before .before .before .before .before .before .before .args in both-four (length (a .dark .now)) (length (a .light .now)) (c .before .before .before .before .before .before .before .before .before .before .if1 .left) .1
+
+enum-known-number : tie.Need-enum-known-number
+enum-known-number c = search needs
+
+cast-result : tie.Need-cast-result
+cast-result c = search needs
+
+same-length : tie.Need-same-length
+same-length c = search needs
+
+same-length-2 : tie.Need-same-length-2
+same-length-2 c = search needs
+
+returns-2 : tie.Need-returns-2
+returns-2 c =
+    let n = c .before .before .before .before .before .before .before .before .before .before .before .before .new in
+    let a = c .before .before .before .before .before .before .before .before .before .before .before .before .before .before .before .before .before .before .before .args in
+    let e = bracket-four (a .reduced .now) (a .normalized .now) (a .oklab .now) (a .r) (a .g) (a .b) (a .width) (a .dark .now) (a .light .now) (c .before .before .before .before .before .before .before .before .before .before .before .before .before .if1 .left)
+    ∙ of-rgb (λ (u : NormalizedColor). bracketAnswer (a .reduced .now) (a .normalized .now) (a .oklab .now) u (a .width)) (n .result) (a .r) (a .g) (a .b) _ _ (n .ensures) (c .before .before .before .before .before .before .before .before .before .before .before .flat-ordered-bracket .ensures) (c .before .before .before .before .before .before .before .before .before .bracket .given .1) in
+    let t = bracket-by-case _ _ (a .dark .now) (a .light .now) (a .ratio .now) e in
+    (t .0, c .before .before .before .before .before .before .put-color .ensures ∙ t .1, c .before .before .put-color2 .ensures ∙ t .2, t .3)
+
+returns-3 : tie.Need-returns-3
+returns-3 c =
+    let n = c .before .before .before .before .new in
+    let a = c .before .before .before .before .before .before .before .before .before .before .before .args in
+    bracket-by-case _ _ (a .dark .now) (a .light .now) (a .ratio .now)
+    (bracket-four (a .reduced .now) (a .normalized .now) (a .oklab .now) (a .r) (a .g) (a .b) (a .width) (a .dark .now) (a .light .now) (c .before .before .before .before .before .if1 .left)
+    ∙ of-rgb (λ (u : NormalizedColor). bracketAnswer (a .reduced .now) (a .normalized .now) (a .oklab .now) u (a .width)) (n .result) (a .r) (a .g) (a .b) _ _ (n .ensures) (c .before .before .before .flat-ordered-bracket .ensures) (c .before .number .given .1))
+
+pub badge-ordered-bracket-spec : {M : Type 1} → statement M
+badge-ordered-bracket-spec =
+    tie.close
+    (tie.spec
+    returns
+    new-requires
+    flat-ordered-bracket-requires
+    enum-known-bracket
+    put-color-requires
+    put-color-requires-2
+    enum-known-number
+    cast-result
+    same-length
+    same-length-2
+    returns-2
+    returns-3)

@@ -1,0 +1,146 @@
+/*
+ * The badge dither: SuperFamiconv's dithering behind a C interface. Link with libexports.a, which `rt staticlib exports` writes.
+ *
+ * Numbers. A call that can refuse returns 0 where it accepts, and otherwise the lowest number that applies:
+ *
+ *   1  a kind above 10, or a shift that is not 3, 4 or 5
+ *   2  a picture that is too large: a side above 4,096, or more than 1,048,576 pixels
+ *   3  a length that is wrong, or that does not fit the others
+ *   4  a palette that is empty or has more than 256 entries, or a list that is empty or has more than 65,536
+ *   6  an Oklab component that is not from -2 to 2 (NaN is not)
+ *   9  a threshold or a pick asked of a kind that has no matrix: 0, 9 or 10
+ *
+ * A call can be refused with the numbers that its comment names and no others. A refusal changes nothing: what is behind a
+ * pointer and what is in a buffer is as it was, unless the call's comment says otherwise.
+ *
+ * Buffers. A buffer is a pointer and, after it, a length that counts elements: bytes of a uint8_t buffer, floats of a float
+ * buffer. The pointer may be null where the length is 0. A pointer to a single value is never null. Buffers and single
+ * values of one call must not overlap. Nothing is kept after a call, and no memory is allocated.
+ *
+ * Colours. A colour in a buffer is four bytes: red, green, blue, alpha. A reduced colour has a console's own precision, a
+ * normalised one is the same colour from 0 to 255. An Oklab colour is three floats: lightness, a, b.
+ *
+ * Kinds of dithering, by number:
+ *
+ *   0 off          1 Bayer 2x2    2 Bayer 4x4         3 Bayer 8x8    4 checker    5 vertical stipple
+ *   6 horizontal stipple          7 vertical lines    8 horizontal lines          9 Atkinson    10 Floyd-Steinberg
+ */
+#ifndef BADGE_DITHER_H
+#define BADGE_DITHER_H
+
+#include <stddef.h>
+#include <stdint.h>
+
+#ifdef __cplusplus
+extern "C" {
+#endif
+
+/*
+ * The Oklab colour of a colour (r, g, b), each component rounded to a whole number of millionths and then to a float.
+ * Writes lightness, a and b. It never refuses.
+ */
+void badge_to_oklab(uint8_t r, uint8_t g, uint8_t b, float *lightness, float *out_a, float *out_b);
+
+/*
+ * The squared distance of the Oklab colours (l1, a1, b1) and (l2, a2, b2), in which the squares of a and b count 2.15 times.
+ * Accepts: writes the distance. Refuses: 6.
+ */
+uint32_t badge_oklab_sqdist(float l1, float a1, float b1, float l2, float a2, float b2, float *distance);
+
+/*
+ * The threshold of an ordered kind (1 to 8) at column x and row y, both reduced to the size of the kind's matrix; it lies
+ * between 0 and 1.
+ * Accepts: writes the threshold. Refuses: 1 (the kind), 9.
+ */
+uint32_t badge_ordered_threshold(uint32_t kind, uint32_t x, uint32_t y, float *threshold);
+
+/*
+ * How many candidates beside the nearest are considered for a mix: max * shift / 16, rounded with halves up, at least 1 and
+ * at most 16. max is the number of colours of a palette or of a tile, and may be any number.
+ * Accepts: writes the width. Refuses: 1 (the shift).
+ */
+uint32_t badge_bracket_width(uint32_t shift, uint64_t max, uint64_t *width);
+
+/*
+ * How far the colour (r, g, b) lies on the way from (r1, g1, b1), at 0, to (r2, g2, b2), at 1; 0 where the two are the same.
+ * Where clamp is not 0 the share is clamped to 0..1, and a minus zero stays one. It never refuses.
+ */
+float badge_lerp(uint8_t r1, uint8_t g1, uint8_t b1, uint8_t r2, uint8_t g2, uint8_t b2,
+                 uint8_t r, uint8_t g, uint8_t b, uint32_t clamp);
+
+/*
+ * The lookups below choose from a list of 1 to 65,536 candidates, numbered from 0. It is lent as three buffers that are only
+ * read: reduced and normalized hold four bytes an entry, oklab three floats an entry. They choose for the colour (r, g, b),
+ * by squared distance in Oklab. They are refused with 3 where the three lengths do not belong to one number of entries, with
+ * 4 where that number is 0 or above 65,536, and with 6 where some component of oklab is not from -2 to 2.
+ */
+
+/*
+ * The entry that is nearest to the colour, the first of equals.
+ * Accepts: writes its position. Refuses: 3, 4, 6.
+ */
+uint32_t badge_nearest(const uint8_t *reduced, size_t reduced_len, const uint8_t *normalized, size_t normalized_len,
+                       const float *oklab, size_t oklab_len, uint8_t r, uint8_t g, uint8_t b, uint32_t *position);
+
+/*
+ * The nearest entry, and a second that mixes well with it to the colour. Considered are the other entries that are nearest
+ * to the first, at most width of them (a width below 1 counts as 1, one above 16 as 16); an entry of the same colour is
+ * another entry. Of those that the colour lies beside (a share from 0 to 1, see badge_lerp) the one whose mix comes nearest
+ * to the colour is taken, the first of equals; if there is none, the first of all considered.
+ * Accepts: writes the positions of the first and the second. A list of one entry has no second: then both are the same.
+ * Refuses: 3, 4, 6.
+ */
+uint32_t badge_nearest_two(const uint8_t *reduced, size_t reduced_len, const uint8_t *normalized, size_t normalized_len,
+                           const float *oklab, size_t oklab_len, uint8_t r, uint8_t g, uint8_t b, uint64_t width,
+                           uint32_t *first, uint32_t *second);
+
+/*
+ * The two colours that an ordered dither alternates between for the colour: those of badge_nearest_two, the darker one
+ * first, and the share of the lighter one in the mix, from 0 to 1. A list of one entry gives the same colour twice, and 0.
+ * Accepts: writes the two reduced colours into dark and light, four bytes each, and the share behind ratio.
+ * Refuses: 3 (also where dark or light is not 4 long), 4, 6.
+ */
+uint32_t badge_ordered_bracket(const uint8_t *reduced, size_t reduced_len, const uint8_t *normalized, size_t normalized_len,
+                               const float *oklab, size_t oklab_len, uint8_t r, uint8_t g, uint8_t b, uint64_t width,
+                               uint8_t *dark, size_t dark_len, uint8_t *light, size_t light_len, float *ratio);
+
+/*
+ * Which of two colours stands at column x and row y: light, if the two differ in some byte and ratio exceeds the threshold of
+ * the kind there, and else dark. ratio may be any float; a NaN exceeds nothing.
+ * Accepts: writes the colour into chosen, four bytes.
+ * Refuses: 1 (the kind), 3 (dark, light or chosen is not 4 long), 9 (also where the two colours are the same).
+ */
+uint32_t badge_pick(const uint8_t *dark, size_t dark_len, const uint8_t *light, size_t light_len, float ratio,
+                    uint32_t kind, uint32_t x, uint32_t y, uint8_t *chosen, size_t chosen_len);
+
+/*
+ * Pictures lie row by row, four bytes a pixel. The caller lends two tables of 256 bytes: reduction gives a console's own
+ * value for each channel value, scale the value from 0 to 255 for each of the console's. A pixel whose alpha is below 128 is
+ * transparent. Any other reduces to its red, green and blue through the reduction table, with alpha 255. Normalising sends
+ * all four bytes through the scale table. The shift is that of the console's mode: 3, 4 or 5.
+ */
+
+/*
+ * Dithers a picture to a palette of 1 to 256 reduced colours. Each pixel that is not transparent chooses an entry: kind 0 the
+ * nearest; kinds 1 to 8 one of the two of badge_ordered_bracket, as badge_pick does, where x and y count from the picture's
+ * corner and the width is badge_bracket_width of the shift and the number of entries; kinds 9 and 10 the nearest to the
+ * colour with the error that earlier pixels passed on to it. A picture without pixels is accepted.
+ *
+ * Lengths: reduction and scale 256; palette 4 an entry; pixels and out 4 a pixel; indices 1 a pixel; cells 3 a pixel for kinds
+ * 9 and 10, else 0. Only indices, out and cells are written.
+ * Accepts: writes into indices the position of the first entry that equals the colour chosen, and into out that colour,
+ * normalised; a transparent pixel gets 0 and four zeros. cells then holds the error that was passed on to each pixel, in red,
+ * green and blue, whatever was there before.
+ * Refuses: 1 (the kind or the shift), 2, 3, 4 (the palette).
+ */
+uint32_t badge_quantize_pixels(uint32_t shift, uint32_t kind, uint32_t width, uint32_t height,
+                               const uint8_t *reduction, size_t reduction_len, const uint8_t *scale, size_t scale_len,
+                               const uint8_t *palette, size_t palette_len, const uint8_t *pixels, size_t pixels_len,
+                               uint8_t *indices, size_t indices_len, uint8_t *out, size_t out_len,
+                               float *cells, size_t cells_len);
+
+#ifdef __cplusplus
+}
+#endif
+
+#endif
