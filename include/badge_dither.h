@@ -8,6 +8,7 @@
  *   3  a length that is wrong, or that does not fit the others
  *   4  a palette that is empty or has more than 256 entries, or a list that is empty or has more than 65,536
  *   6  an Oklab component that is not from -2 to 2 (NaN is not)
+ *   7  more candidates than places for them
  *   9  a threshold or a pick asked of a kind that has no matrix: 0, 9 or 10
  *
  * A call can be refused with the numbers that its comment names and no others. A refusal changes nothing: what is behind a
@@ -119,6 +120,22 @@ uint32_t badge_pick(const uint8_t *dark, size_t dark_len, const uint8_t *light, 
  * transparent. Any other reduces to its red, green and blue through the reduction table, with alpha 255. Normalising sends
  * all four bytes through the scale table. The shift is that of the console's mode: 3, 4 or 5.
  */
+
+/*
+ * The candidates of a picture: the different reduced colours of its pixels that are not transparent, ascending by red, green,
+ * blue and alpha. The caller lends room for 0 to 65,536 of them: places takes the reduced colours, oklab the Oklab colours of
+ * their normalised forms.
+ *
+ * Lengths: reduction and scale 256; pixels 4 a pixel; places 4 a place; oklab 3 a place. Only places and oklab are written.
+ * Accepts: writes the candidates and their Oklab colours to the front of places and oklab, and how many they are behind
+ * count. Places after them are as they were, in both.
+ * Refuses: 1 (the shift), 2, 3 (also for more than 65,536 places), 7. After 7 all of places is 0, and oklab and what is behind
+ * count are as they were.
+ */
+uint32_t badge_candidate_colors_in(uint32_t shift, uint32_t width, uint32_t height,
+                                   const uint8_t *reduction, size_t reduction_len, const uint8_t *scale, size_t scale_len,
+                                   const uint8_t *pixels, size_t pixels_len, uint8_t *places, size_t places_len,
+                                   float *oklab, size_t oklab_len, uint32_t *count);
 
 /*
  * Dithers a picture to a palette of 1 to 256 reduced colours. Each pixel that is not transparent chooses an entry: kind 0 the

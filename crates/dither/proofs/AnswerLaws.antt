@@ -1,6 +1,6 @@
 -- The answer 8: it names a tile whose different chosen colours outnumber the limit, the first such one (`over-said`); and where no lower number applies and
 -- some tile's do, it is the answer (`over-answered`). Assumes nothing.
-use mathlib.Core.Path.{_≡_, refl, sym, subst, _∙_, ap}
+use mathlib.Core.Path.{_≡_, refl, sym, _∙_, ap}
 use mathlib.Core.Bool.{Bool, true, false, cond}
 use mathlib.Core.List.{[], _∷_, _++_}
 use Prim.Native.Nat.{ℕ, _*_, _<_}

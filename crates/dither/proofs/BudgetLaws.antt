@@ -1,12 +1,11 @@
 -- Over budget: it is said exactly if some tile's different chosen colours outnumber the limit (`over-if`, `over-only`), and the tile that is
 -- named is the first such one (`tile-first`). What judging answers says so (`judged-over`, `judged-fits`). Assumes nothing.
 use mathlib.Core.Path.{_≡_, refl, sym, subst, _∙_, ap}
-use mathlib.Core.Bool.{Bool, true, false, cond, not}
+use mathlib.Core.Bool.{Bool, true, false, cond}
 use mathlib.Core.List.{List}
-use Prim.Native.Nat.{ℕ, _+_, _*_, _<_}
+use Prim.Native.Nat.{ℕ, _+_, _<_}
 use native.Mathlib.Omega.{arith}
 use lib.Dec.{T, T-not}
-use Rattle.color.specs.declared.ReducedColor.{ReducedColor}
 use Rattle.color.specs.Color.{sameReduced, reducedAt}
 use Rattle.picture.specs.Pixels.{isOpaque}
 use Rattle.judging.specs.declared.Judged.{Judged}

@@ -90,7 +90,7 @@ module _ (scale : List ℕ) (cs : List ReducedColor) where
   abbrev piece : ℕ → List Float
   piece i = floatsOf (oklabOf i)
 
-  pub oklab-long : length (candidateOklab scale cs) ≡ 3 * length cs
+  oklab-long : length (candidateOklab scale cs) ≡ 3 * length cs
   unfolding candidateOklab
   oklab-long = gather-length 3 piece (λ i. refl) (length cs)
 
@@ -109,7 +109,7 @@ some-in : {A : Type 0} (x : A) (xs : List A) → In x xs → 0 < length xs
 some-in x [] i = absurd i
 some-in x (y ∷ ys) i = omega arith
 
-pub drawn-opaque : (zero : ColorZero) (reduction pixels : List ℕ) (i : ℕ) → isSkipped zero (pixelAt reduction pixels i) ≡ false → isOpaque pixels i ≡ true
+drawn-opaque : (zero : ColorZero) (reduction pixels : List ℕ) (i : ℕ) → isSkipped zero (pixelAt reduction pixels i) ≡ false → isOpaque pixels i ≡ true
 unfolding isSkipped
 drawn-opaque zero reduction pixels i s = opaque-is reduction pixels i ∙ ap not (or-split (isTransparent (pixelAt reduction pixels i .0)) _ s .0)
 

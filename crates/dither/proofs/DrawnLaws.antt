@@ -1,11 +1,10 @@
 -- The picture that is drawn over the candidates: what fits is ready to be drawn (`ready`), and over rooms that hold the candidates it is the
 -- promised one (`same-picture`); it can be judged and finished (`judgeable`, `finishable`), and finished it is the promised pixels (`finished-all`).
 -- Assumes nothing.
-use mathlib.Core.Path.{_≡_, refl, sym, _∙_, ap}
+use mathlib.Core.Path.{_≡_, sym, _∙_, ap}
 use mathlib.Core.List.{List}
 use Prim.Native.Nat.{ℕ, _*_, _<_}
 use native.Mathlib.Nat.{le-of-eq}
-use native.Mathlib.Omega.{arith}
 use lib.ListN.{length, getD, take}
 use lib.Ieee.{Float}
 use Rattle.lists.proofs.GatherLaws.{gather-same}
@@ -13,11 +12,10 @@ use Rattle.color.specs.declared.ReducedColor.{ReducedColor}
 use Rattle.color.specs.Color.{reducedAt, bytesOf}
 use Rattle.picture.specs.Pixels.{isOpaque}
 use Rattle.mixing.specs.Widths.{widthOf}
-use Rattle.drawing.specs.Drawing.{Drawing}
 use Rattle.drawing.specs.Lent.{Ready, drawingOf, reducedBytes}
 use Rattle.drawing.proofs.OutputLaws.{bytes-length, bytes-at}
 use Rattle.judging.specs.Tiles.{Judgeable}
-use Rattle.dither.specs.Mode.{Order, size, candidateList, candidateBytes, candidateOklab, dithererOf, lentOf, dithering, chosen, finished, pixelAt, pixelsOf}
+use Rattle.dither.specs.Mode.{Order, size, candidateList, dithererOf, lentOf, dithering, chosen, finished, pixelAt, pixelsOf}
 use Rattle.dither.specs.Steps.{Fitting, Roomed, Finishable, finishedBytes}
 use Rattle.dither.proofs.CandidateLaws.{bytes-long, candidates-ranged, some-candidate}
 

@@ -1,7 +1,7 @@
 -- An accepted picture, pixel by pixel: what stands at pixel i (`color-here`), what that is for a transparent pixel (`pixel-transparent`), for an
 -- opaque one (`pixel-opaque`), and for one of colour zero's rgb (`pixel-zero`: its own reduced colour); an opaque pixel's choice is a candidate
 -- (`chosen-among`). Assumes nothing.
-use mathlib.Core.Path.{_≡_, refl, sym, _∙_, ap}
+use mathlib.Core.Path.{_≡_, refl, _∙_, ap}
 use mathlib.Core.Bool.{Bool, true, false, _||_}
 use mathlib.Core.List.{List}
 use Prim.Native.Nat.{ℕ, _<_}

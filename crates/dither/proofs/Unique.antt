@@ -1,5 +1,5 @@
 -- The promise of `dither_to_mode` leaves one result: one answer, and one content of each buffer. Assumes nothing.
-use mathlib.Core.Path.{_≡_, sym, _∙_}
+use mathlib.Core.Path.{sym, _∙_}
 use Rattle.lists.specs.Unique.{Unique}
 use Rattle.dither.specs.declared.Dithered.{Dithered}
 use Rattle.dither.specs.Mode.{Order, Buffers, buffers, DitheredToMode}

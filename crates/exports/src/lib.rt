@@ -1,6 +1,7 @@
 // The C interface: each function is one call down, and hands numbers over. include/badge_dither.h declares them. All but
 // `badge_to_oklab` and `badge_lerp` answer document 01's number; what is behind a pointer or in a lent buffer is written on
-// acceptance only.
+// acceptance only, but for the candidates' places, which 7 clears.
+use candidates::CandidateCount;
 use color::Distance;
 use color::NormalizedColor;
 use color::Oklab;
@@ -21,16 +22,18 @@ ghost use mathlib.Core.Path.{_≡_};
 ghost use mathlib.Core.Bool.{not};
 ghost use lib.Dec.{eqb};
 ghost use lib.ListN.{length};
-ghost use Rattle.lists.specs.Lowest.{after};
+ghost use Rattle.lists.specs.Lowest.{lowest, after};
 ghost use Rattle.color.specs.Color.{reducedAt, bytesOf};
 ghost use Rattle.color.specs.Oklab.{distanceOf, numberOf};
 ghost use Rattle.patterns.specs.Thresholds.{thresholdOf};
 ghost use Rattle.mixing.specs.Lerp.{lerpOf};
 ghost use Rattle.mixing.specs.Widths.{bracketWidthOf};
+ghost use Rattle.candidates.specs.Calls.{candidatesIn, replies, placesAfter, oklabAfter};
 ghost use Rattle.drawing.specs.Lent.{cellsAfter};
 ghost use Rattle.quantize.specs.Quantize.{order, quantizing, numberFor, lengthsOf, indicesOf, pixelsOf};
 ghost use Rattle.exports.specs.Answers.{opaqueRgb, oklabOfRgb, oklab, squaredAfter, thresholdNumber, thresholdAfter, widthNumber, widthAfter};
 ghost use Rattle.exports.specs.Lookups.{nearestNumber, nearestRgb, positionAfter, nearestTwoNumber, nearestTwoRgb, firstAfter, secondOf, secondAfter, bracketNumber, bracketRgb, darkAfter, lightAfter, ratioAfter, pickNumber, pickRooms, chosenAfter};
+ghost use Rattle.exports.specs.Pictures.{lentTo};
 
 // The Oklab colour of a colour.
 #[no_mangle]
@@ -285,6 +288,43 @@ pub extern "C" fn badge_pick(
 }
 
 // ---- pictures
+
+// The candidates of a picture, and how many; 1, 2, 3 and 7.
+#[no_mangle]
+pub extern "C" fn badge_candidate_colors_in(
+    shift: u32,
+    width: u32,
+    height: u32,
+    reduction: &[u8],
+    scale: &[u8],
+    pixels: &[u8],
+    places: &mut [u8],
+    oklab: &mut [f32],
+    count: &mut u32,
+) -> u32
+    ensures { λ n. ⌜ (let x = lentTo shift width height (now (reduction .entry)) (now (scale .entry)) (now (pixels .entry)) (now (places .entry)) (now (oklab .entry)) in
+        (n ≡ lowest (replies x))
+        × (now (places .exit) ≡ placesAfter n x)
+        × (now (oklab .exit) ≡ oklabAfter n x)
+        × (now (count .exit) ≡ after n (length (candidatesIn x)) (now (count .entry)))) ⌝ }
+{
+    match candidates::candidate_colors_in(
+        shift,
+        width,
+        height,
+        reduction,
+        scale,
+        pixels,
+        places,
+        oklab,
+    ) {
+        CandidateCount::Count(k) => {
+            *count = k;
+            0
+        }
+        CandidateCount::Refused(number) => number as u32,
+    }
+}
 
 // Quantizes a picture to a palette; 1, 2, 3 and 4.
 #[no_mangle]

@@ -12,7 +12,7 @@ side-wrong-requires-2 c κs = search needs
 
 returns : tie.Need-returns
 unfolding budgetWrong
-returns c = cc
+returns c = rw (c .before .before .side-wrong .ensures, c .before .side-wrong2 .ensures)
 
 pub budget-wrong-spec : {M : Type 1} → statement M
 budget-wrong-spec = tie.close (tie.spec side-wrong-requires side-wrong-requires-2 returns)

@@ -1,0 +1,57 @@
+-- `exports::badge_candidate_colors_in` meets its contract: the answer's case decides the number and the count. Assumes nothing.
+use Rattle.exports.specs.Pictures.{lentTo}
+use Rattle.exports.proofs.PictureLaws.{candidates-by-case}
+use borrow.Author.Needs.{needs}
+use Rattle.exports.proofs.badge_candidate_colors_in.Statement.{statement}
+use Rattle.exports.proofs.badge_candidate_colors_in.Tie as tie
+
+candidate-colors-in-requires : tie.Need-candidate-colors-in-requires
+candidate-colors-in-requires c κs = search needs
+
+enum-known-k : tie.Need-enum-known-k
+enum-known-k c = search needs
+
+enum-known-number : tie.Need-enum-known-number
+enum-known-number c = search needs
+
+cast-result : tie.Need-cast-result
+cast-result c = search needs
+
+same-length : tie.Need-same-length
+same-length c = search needs
+
+same-length-2 : tie.Need-same-length-2
+same-length-2 c = search needs
+
+returns : tie.Need-returns
+returns c =
+    let a = c .before .before .before .before .before .before .before .before .before .before .before .before .before .before .before .args in
+    let p = c .before .before .before .before .before .before .before .candidate-colors-in in
+    candidates-by-case (lentTo (a .shift) (a .width) (a .height) (a .reduction .now) (a .scale .now) (a .pixels .now) (a .places .now) (a .oklab .now)) (p .result) _ _ _ (a .count .now) (p .ensures) (c .before .k .given .1)
+
+same-length-3 : tie.Need-same-length-3
+same-length-3 c = search needs
+
+same-length-4 : tie.Need-same-length-4
+same-length-4 c = search needs
+
+returns-2 : tie.Need-returns-2
+returns-2 c =
+    let a = c .before .before .before .before .before .before .before .before .before .before .before .before .before .before .before .args in
+    let p = c .before .before .before .before .before .before .before .candidate-colors-in in
+    candidates-by-case (lentTo (a .shift) (a .width) (a .height) (a .reduction .now) (a .scale .now) (a .pixels .now) (a .places .now) (a .oklab .now)) (p .result) _ _ _ (a .count .now) (p .ensures) (c .before .number .given .1)
+
+pub badge-candidate-colors-in-spec : {M : Type 1} → statement M
+badge-candidate-colors-in-spec =
+    tie.close
+    (tie.spec
+    candidate-colors-in-requires
+    enum-known-k
+    enum-known-number
+    cast-result
+    same-length
+    same-length-2
+    returns
+    same-length-3
+    same-length-4
+    returns-2)
