@@ -1,14 +1,18 @@
 /*
- * The badge dither: SuperFamiconv's dithering behind a C interface. Link with libexports.a, which `rt staticlib exports` writes.
+ * The badge dither: SuperFamiconv's dithering behind a C interface. Link with libexports.a, which `rt staticlib exports`
+ * writes.
  *
  * Numbers. A call that can refuse returns 0 where it accepts, and otherwise the lowest number that applies:
  *
  *   1  a kind above 10, or a shift that is not 3, 4 or 5
- *   2  a picture that is too large: a side above 4,096, or more than 1,048,576 pixels
+ *   2  a picture that is too large: a side above 4,096, or more than 1,048,576 pixels, or an origin and a side that add up
+ *      to more than 4,294,967,295
  *   3  a length that is wrong, or that does not fit the others
  *   4  a palette that is empty or has more than 256 entries, or a list that is empty or has more than 65,536
+ *   5  a tile side that is not from 1 to 4,096, or a limit above 256
  *   6  an Oklab component that is not from -2 to 2 (NaN is not)
  *   7  more candidates than places for them
+ *   8  a tile that is over its limit
  *   9  a threshold or a pick asked of a kind that has no matrix: 0, 9 or 10
  *
  * A call can be refused with the numbers that its comment names and no others. A refusal changes nothing: what is behind a
@@ -106,8 +110,8 @@ uint32_t badge_ordered_bracket(const uint8_t *reduced, size_t reduced_len, const
                                uint8_t *dark, size_t dark_len, uint8_t *light, size_t light_len, float *ratio);
 
 /*
- * Which of two colours stands at column x and row y: light, if the two differ in some byte and ratio exceeds the threshold of
- * the kind there, and else dark. ratio may be any float; a NaN exceeds nothing.
+ * Which of two colours stands at column x and row y: light, if the two differ in some byte and ratio exceeds the threshold
+ * of the kind there, and else dark. ratio may be any float; a NaN exceeds nothing.
  * Accepts: writes the colour into chosen, four bytes.
  * Refuses: 1 (the kind), 3 (dark, light or chosen is not 4 long), 9 (also where the two colours are the same).
  */
@@ -122,14 +126,14 @@ uint32_t badge_pick(const uint8_t *dark, size_t dark_len, const uint8_t *light, 
  */
 
 /*
- * The candidates of a picture: the different reduced colours of its pixels that are not transparent, ascending by red, green,
- * blue and alpha. The caller lends room for 0 to 65,536 of them: places takes the reduced colours, oklab the Oklab colours of
- * their normalised forms.
+ * The candidates of a picture: the different reduced colours of its pixels that are not transparent, ascending by red,
+ * green, blue and alpha. The caller lends room for 0 to 65,536 of them: places takes the reduced colours, oklab the Oklab
+ * colours of their normalised forms.
  *
  * Lengths: reduction and scale 256; pixels 4 a pixel; places 4 a place; oklab 3 a place. Only places and oklab are written.
  * Accepts: writes the candidates and their Oklab colours to the front of places and oklab, and how many they are behind
  * count. Places after them are as they were, in both.
- * Refuses: 1 (the shift), 2, 3 (also for more than 65,536 places), 7. After 7 all of places is 0, and oklab and what is behind
+ * Refuses: 1 (the shift), 2, 3 (also for more than 65,536 places), 7. After 7 all of places is 0; oklab and what is behind
  * count are as they were.
  */
 uint32_t badge_candidate_colors_in(uint32_t shift, uint32_t width, uint32_t height,
@@ -138,16 +142,16 @@ uint32_t badge_candidate_colors_in(uint32_t shift, uint32_t width, uint32_t heig
                                    float *oklab, size_t oklab_len, uint32_t *count);
 
 /*
- * Dithers a picture to a palette of 1 to 256 reduced colours. Each pixel that is not transparent chooses an entry: kind 0 the
- * nearest; kinds 1 to 8 one of the two of badge_ordered_bracket, as badge_pick does, where x and y count from the picture's
- * corner and the width is badge_bracket_width of the shift and the number of entries; kinds 9 and 10 the nearest to the
- * colour with the error that earlier pixels passed on to it. A picture without pixels is accepted.
+ * Dithers a picture to a palette of 1 to 256 reduced colours. Each pixel that is not transparent chooses an entry: kind 0
+ * the nearest; kinds 1 to 8 one of the two of badge_ordered_bracket, as badge_pick does, where x and y count from the
+ * picture's corner and the width is badge_bracket_width of the shift and the number of entries; kinds 9 and 10 the nearest to
+ * the colour with the error that earlier pixels passed on to it. A picture without pixels is accepted.
  *
- * Lengths: reduction and scale 256; palette 4 an entry; pixels and out 4 a pixel; indices 1 a pixel; cells 3 a pixel for kinds
- * 9 and 10, else 0. Only indices, out and cells are written.
+ * Lengths: reduction and scale 256; palette 4 an entry; pixels and out 4 a pixel; indices 1 a pixel; cells 3 a pixel for
+ * kinds 9 and 10, else 0. Only indices, out and cells are written.
  * Accepts: writes into indices the position of the first entry that equals the colour chosen, and into out that colour,
- * normalised; a transparent pixel gets 0 and four zeros. cells then holds the error that was passed on to each pixel, in red,
- * green and blue, whatever was there before.
+ * normalised; a transparent pixel gets 0 and four zeros. cells then holds the error that was passed on to each pixel, in
+ * red, green and blue, whatever was there before.
  * Refuses: 1 (the kind or the shift), 2, 3, 4 (the palette).
  */
 uint32_t badge_quantize_pixels(uint32_t shift, uint32_t kind, uint32_t width, uint32_t height,
@@ -155,6 +159,34 @@ uint32_t badge_quantize_pixels(uint32_t shift, uint32_t kind, uint32_t width, ui
                                const uint8_t *palette, size_t palette_len, const uint8_t *pixels, size_t pixels_len,
                                uint8_t *indices, size_t indices_len, uint8_t *out, size_t out_len,
                                float *cells, size_t cells_len);
+
+/*
+ * Dithers a picture to its own candidates (see badge_candidate_colors_in), and judges its tiles. The picture is a part of a
+ * larger one, at column origin_x and row origin_y: patterns are laid over the larger one. Each pixel that is not transparent
+ * chooses a candidate as in badge_quantize_pixels, with the limit in the place of the number of entries. Where has_zero is
+ * not 0, a pixel whose reduced red, green and blue are those of colour zero (zero_r, zero_g, zero_b; zero_a plays no part)
+ * keeps its reduced colour and passes no error on.
+ *
+ * Tiles of tile_width and tile_height are laid from the picture's corner, numbered row by row from 0; those at the right and
+ * lower edge may be cut short. A tile is over its limit if its pixels that are not transparent have more different chosen
+ * colours than that.
+ *
+ * Lengths: reduction and scale 256; pixels and out 4 a pixel; places 4 a place, for 0 to 65,536 of them; oklab 3 a place;
+ * cells 3 a pixel for kinds 9 and 10, else 0. Only places, oklab, out and cells are written.
+ * Accepts: writes the candidates to the front of places and oklab, as badge_candidate_colors_in does, the chosen colours,
+ * normalised, into out (four zeros for a transparent pixel), and how many candidates there are behind count. cells then holds
+ * the error that was passed on to each pixel, whatever was there before. What is behind tile is as it was.
+ * Refuses: 1 (the kind or the shift), 2, 3 (also for more than 65,536 places), 5, 7, 8. After 7 all of places is 0 and the
+ * rest as it was. After 8 places, oklab and what is behind count are as on acceptance, out and cells are all 0, and the number
+ * of the first tile over its limit is behind tile.
+ */
+uint32_t badge_dither_to_mode(uint32_t shift, uint32_t kind, uint32_t width, uint32_t height,
+                              uint32_t origin_x, uint32_t origin_y, uint32_t tile_width, uint32_t tile_height, uint32_t limit,
+                              uint32_t has_zero, uint8_t zero_r, uint8_t zero_g, uint8_t zero_b, uint8_t zero_a,
+                              const uint8_t *reduction, size_t reduction_len, const uint8_t *scale, size_t scale_len,
+                              const uint8_t *pixels, size_t pixels_len, uint8_t *places, size_t places_len,
+                              float *oklab, size_t oklab_len, uint8_t *out, size_t out_len, float *cells, size_t cells_len,
+                              uint32_t *count, uint32_t *tile);
 
 #ifdef __cplusplus
 }

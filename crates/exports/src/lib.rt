@@ -1,6 +1,6 @@
 // The C interface: each function is one call down, and hands numbers over. include/badge_dither.h declares them. All but
 // `badge_to_oklab` and `badge_lerp` answer document 01's number; what is behind a pointer or in a lent buffer is written on
-// acceptance only, but for the candidates' places, which 7 clears.
+// acceptance only, but for the candidates' places, which 7 clears, and for what 8 leaves.
 use candidates::CandidateCount;
 use color::Distance;
 use color::NormalizedColor;
@@ -8,6 +8,9 @@ use color::Oklab;
 use color::ReducedColor;
 use color::put_rgba;
 use color::rgba_at;
+use dither::Dithered;
+use dither::Settings;
+use drawing::ColorZero;
 use lookup::Bracket;
 use lookup::Found;
 use lookup::FoundBracket;
@@ -28,12 +31,13 @@ ghost use Rattle.color.specs.Oklab.{distanceOf, numberOf};
 ghost use Rattle.patterns.specs.Thresholds.{thresholdOf};
 ghost use Rattle.mixing.specs.Lerp.{lerpOf};
 ghost use Rattle.mixing.specs.Widths.{bracketWidthOf};
+ghost use Rattle.dither.specs.Mode as mode;
 ghost use Rattle.candidates.specs.Calls.{candidatesIn, replies, placesAfter, oklabAfter};
 ghost use Rattle.drawing.specs.Lent.{cellsAfter};
 ghost use Rattle.quantize.specs.Quantize.{order, quantizing, numberFor, lengthsOf, indicesOf, pixelsOf};
 ghost use Rattle.exports.specs.Answers.{opaqueRgb, oklabOfRgb, oklab, squaredAfter, thresholdNumber, thresholdAfter, widthNumber, widthAfter};
 ghost use Rattle.exports.specs.Lookups.{nearestNumber, nearestRgb, positionAfter, nearestTwoNumber, nearestTwoRgb, firstAfter, secondOf, secondAfter, bracketNumber, bracketRgb, darkAfter, lightAfter, ratioAfter, pickNumber, pickRooms, chosenAfter};
-ghost use Rattle.exports.specs.Pictures.{lentTo};
+ghost use Rattle.exports.specs.Pictures.{lentTo, zeroOf, settingsOf};
 
 // The Oklab colour of a colour.
 #[no_mangle]
@@ -318,8 +322,8 @@ pub extern "C" fn badge_candidate_colors_in(
         places,
         oklab,
     ) {
-        CandidateCount::Count(k) => {
-            *count = k;
+        CandidateCount::Count(counted) => {
+            *count = counted;
             0
         }
         CandidateCount::Refused(number) => number as u32,
@@ -362,5 +366,87 @@ pub extern "C" fn badge_quantize_pixels(
     ) {
         Reply::Accepted => 0,
         Reply::Refused(number) => number as u32,
+    }
+}
+
+// Colour zero as the flag and the bytes have it.
+fn color_zero(has_zero: u32, r: u8, g: u8, b: u8, a: u8) -> ColorZero
+    ensures { λ z. ⌜ z ≡ zeroOf «has_zero» r g b a ⌝ }
+{
+    if has_zero == 0 {
+        return ColorZero::Absent;
+    }
+    ColorZero::Is(ReducedColor::new(r, g, b, a))
+}
+
+// Dithers a picture to a mode and judges its tiles; 1, 2, 3, 5, 7 and 8. After 8 there are a count and a tile, too.
+#[no_mangle]
+pub extern "C" fn badge_dither_to_mode(
+    shift: u32,
+    kind: u32,
+    width: u32,
+    height: u32,
+    origin_x: u32,
+    origin_y: u32,
+    tile_width: u32,
+    tile_height: u32,
+    limit: u32,
+    has_zero: u32,
+    zero_r: u8,
+    zero_g: u8,
+    zero_b: u8,
+    zero_a: u8,
+    reduction: &[u8],
+    scale: &[u8],
+    pixels: &[u8],
+    places: &mut [u8],
+    oklab: &mut [f32],
+    out: &mut [u8],
+    cells: &mut [f32],
+    count: &mut u32,
+    tile: &mut u32,
+) -> u32
+    ensures { λ n. ⌜ (let q = mode.order (settingsOf shift kind width height «origin_x» «origin_y» «tile_width» «tile_height» limit (zeroOf «has_zero» «zero_r» «zero_g» «zero_b» «zero_a»))
+        (now (reduction .entry)) (now (scale .entry)) (now (pixels .entry)) in
+        (n ≡ mode.numberFor q (mode.buffers (now (places .entry)) (now (oklab .entry)) (now (out .entry)) (now (cells .entry))))
+        × (now (places .exit) ≡ mode.placesAfter n q (now (places .entry)))
+        × (now (oklab .exit) ≡ mode.oklabAfter n q (now (oklab .entry)))
+        × (now (out .exit) ≡ mode.outAfter n q (now (out .entry)))
+        × (now (cells .exit) ≡ mode.cellsLeft n q (now (cells .entry)))
+        × (now (count .exit) ≡ mode.leaves n (length (mode.candidateList q)) (length (mode.candidateList q)) (now (count .entry)))
+        × (now (tile .exit) ≡ mode.leaves n (now (tile .entry)) (mode.tileOver q) (now (tile .entry)))) ⌝ }
+{
+    let settings = Settings {
+        kind,
+        shift,
+        width,
+        height,
+        origin_x,
+        origin_y,
+        tile_width,
+        tile_height,
+        limit,
+        zero: color_zero(has_zero, zero_r, zero_g, zero_b, zero_a),
+    };
+    match dither::dither_to_mode(
+        settings,
+        reduction,
+        scale,
+        pixels,
+        places,
+        oklab,
+        out,
+        cells,
+    ) {
+        Dithered::Count(k) => {
+            *count = k;
+            0
+        }
+        Dithered::Over { tile: t, count: k } => {
+            *tile = t;
+            *count = k;
+            8
+        }
+        Dithered::Refused(number) => number as u32,
     }
 }

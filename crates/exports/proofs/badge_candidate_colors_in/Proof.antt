@@ -8,8 +8,8 @@ use Rattle.exports.proofs.badge_candidate_colors_in.Tie as tie
 candidate-colors-in-requires : tie.Need-candidate-colors-in-requires
 candidate-colors-in-requires c κs = search needs
 
-enum-known-k : tie.Need-enum-known-k
-enum-known-k c = search needs
+enum-known-counted : tie.Need-enum-known-counted
+enum-known-counted c = search needs
 
 enum-known-number : tie.Need-enum-known-number
 enum-known-number c = search needs
@@ -27,7 +27,7 @@ returns : tie.Need-returns
 returns c =
     let a = c .before .before .before .before .before .before .before .before .before .before .before .before .before .before .before .args in
     let p = c .before .before .before .before .before .before .before .candidate-colors-in in
-    candidates-by-case (lentTo (a .shift) (a .width) (a .height) (a .reduction .now) (a .scale .now) (a .pixels .now) (a .places .now) (a .oklab .now)) (p .result) _ _ _ (a .count .now) (p .ensures) (c .before .k .given .1)
+    candidates-by-case (lentTo (a .shift) (a .width) (a .height) (a .reduction .now) (a .scale .now) (a .pixels .now) (a .places .now) (a .oklab .now)) (p .result) _ _ _ (a .count .now) (p .ensures) (c .before .counted .given .1)
 
 same-length-3 : tie.Need-same-length-3
 same-length-3 c = search needs
@@ -46,7 +46,7 @@ badge-candidate-colors-in-spec =
     tie.close
     (tie.spec
     candidate-colors-in-requires
-    enum-known-k
+    enum-known-counted
     enum-known-number
     cast-result
     same-length
