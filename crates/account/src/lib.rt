@@ -1,0 +1,2 @@
+// The colour account of each accepted call's picture. There is no code here: specs/ says it of the buffers, and proofs/
+// has it for both calls.
