@@ -2,13 +2,14 @@
 //! it has, and how they are written.
 
 use crate::case::{Call, Case, LentTables};
+use crate::color::{ReducedColor, eq_rgb};
 use crate::examples;
 use crate::generate::{Style, case_with};
 use crate::hooks::Tables;
-use crate::original::own_tables;
+use crate::original::{Rgba, own_tables};
 use crate::reference::expected;
 use crate::rng::Rng;
-use crate::text::{line, tables_line};
+use crate::text::{hex, line, tables_line};
 
 /// How many cases of each expected number a group takes, and whether as many
 /// are taken of each kind.
@@ -38,9 +39,9 @@ fn quotas(call: Call) -> Vec<Quota> {
         Call::OrderedBracket => plain(&[(0, 40), (3, 6), (4, 2), (6, 6)]),
         Call::Pick => plain(&[(0, 48), (1, 6), (9, 9)]),
         // These are taken for each of the tables.
-        Call::CandidateColorsIn => plain(&[(0, 5), (1, 1), (2, 1), (3, 2), (7, 2)]),
-        Call::QuantizePixels => with_kinds(&[(1, 1), (2, 1), (3, 3), (4, 1)], &[0]),
-        Call::DitherToMode => with_kinds(&[(1, 1), (2, 2), (3, 3), (5, 2), (7, 2)], &[0, 8]),
+        Call::CandidateColorsIn => plain(&[(0, 5), (1, 1), (2, 1), (3, 4), (7, 2)]),
+        Call::QuantizePixels => with_kinds(&[(1, 1), (2, 1), (3, 6), (4, 1)], &[0]),
+        Call::DitherToMode => with_kinds(&[(1, 1), (2, 2), (3, 5), (5, 2), (7, 2)], &[0, 8]),
     }
 }
 
@@ -120,12 +121,36 @@ fn group(name: &str, cases: &[Case]) -> String {
     text
 }
 
+/// `eq_rgb` is not in the C interface, and so no `Call`. Its pairs are equal,
+/// differ in one byte, or in all.
+fn eq_rgb_group(seed: u64) -> String {
+    let mut rng = Rng::new(seed);
+    let color = |[r, g, b, a]: Rgba| ReducedColor::new(r, g, b, a);
+    let mut text = String::from("g eq_rgb\n");
+    for turn in 0..36 {
+        let one: Rgba = std::array::from_fn(|_| rng.byte());
+        let mut other = one;
+        match turn % 6 {
+            0 => {}
+            5 => other = std::array::from_fn(|_| rng.byte()),
+            channel => other[channel - 1] ^= 1 << rng.below(8),
+        }
+        let equal = eq_rgb(color(one), color(other));
+        text += &format!("e {} {} {}\n", hex(&one), hex(&other), hex(&[u8::from(equal)]));
+    }
+    text
+}
+
 /// The whole list for these calls.
 pub fn list(calls: &[Call], seed: u64, command: &str) -> String {
     let mut text = format!(
         "# The original's answers, recorded to be replayed. Made in the folder oracle by:\n# {command}\n# seed {seed}\n"
     );
     for &call in calls {
+        if call == Call::OklabSqdist {
+            // The other call of src/color.rs.
+            text += &eq_rgb_group(seed);
+        }
         text += &group(call.name(), &cases_of(call, seed));
         match call {
             Call::QuantizePixels => text += &group("quantize_pixels_examples", &examples::of_quantize()),

@@ -1,7 +1,7 @@
 -- What the code's choices are, from what the functions that it calls answer: the nearest, what is picked of a bracket, a diffused pixel, a plain one; and
 -- what is lent for a whole picture is what a pixel's choice needs. Stated over plain parameters. Assumes nothing.
 use mathlib.Core.Path.{_≡_, sym, ap, _∙_, subst}
-use mathlib.Core.Bool.{Bool, false}
+use mathlib.Core.Bool.{Bool, true, false, cond}
 use mathlib.Core.List.{List, map}
 use Prim.Native.Nat.{ℕ, _+_, _*_, _/_, _%_, _≤_, _<_}
 use native.Mathlib.Nat.{div-add-mod'}
@@ -13,13 +13,12 @@ use Rattle.floats.specs.Over.{sixteenths}
 use Rattle.color.specs.declared.Rgba8888.{Rgba8888}
 use Rattle.color.specs.declared.NormalizedColor.{NormalizedColor}
 use Rattle.color.specs.declared.ReducedColor.{ReducedColor}
-use Rattle.color.specs.declared.Oklab.{Oklab}
 use Rattle.color.specs.Color.{rgbaAt}
 use Rattle.color.specs.Tables.{normalizeColor}
 use Rattle.color.specs.Oklab.{allInRange, oklabAt}
 use Rattle.conversion.specs.Oklab.{toOklab}
 use Rattle.picture.specs.Pixels.{sourceAt, pixelAt}
-use Rattle.patterns.specs.Kinds.{isDiffusion, kernelOf}
+use Rattle.patterns.specs.Kinds.{isOrdered, isDiffusion, kernelOf}
 use Rattle.patterns.specs.Thresholds.{thresholdAt}
 use Rattle.shortlist.specs.Candidates.{Candidates, scaled}
 use Rattle.shortlist.specs.Nearest.{nearestIn}
@@ -34,28 +33,43 @@ use Rattle.drawing.specs.declared.ColorZero.{ColorZero}
 use Rattle.drawing.specs.declared.Ditherer.{Ditherer}
 use Rattle.drawing.specs.Drawing.{nearestColor, orderedColor, colorAt, drawn}
 use Rattle.drawing.specs.Lent.{isSkipped, Lent, drawingOf, Ready}
-use Rattle.drawing.specs.Turns.{Choosable, Inside, Diffused}
+use Rattle.remembered.specs.Table.{nearestAlone, nearestBoth, Kept}
+use Rattle.drawing.specs.Turns.{Choosable, Inside, Diffused, answersOf}
 use Rattle.drawing.proofs.DrawnLaws.{drawn-plain}
 
-pub nearest-is : (colors scale : List ℕ) (oklab : List Float) (n : ℕ) (o : Oklab) (k : ℕ) (r : Rgba8888) (c : NormalizedColor)
-    → o ≡ toOklab c → k ≡ nearestIn (oklabAt oklab) n o → r ≡ rgbaAt colors k → _≡_ {A = ReducedColor} (record { 0 = r }) (nearestColor (scaled colors scale oklab n) c)
+pub nearest-is : (colors scale : List ℕ) (oklab : List Float) (n : ℕ) (k : ℕ) (r : Rgba8888) (c : NormalizedColor)
+    → k ≡ nearestIn (oklabAt oklab) n (toOklab c) → r ≡ rgbaAt colors k → _≡_ {A = ReducedColor} (record { 0 = r }) (nearestColor (scaled colors scale oklab n) c)
 unfolding nearestColor
-nearest-is colors scale oklab n o k r c converted near read =
-    let e : r ≡ rgbaAt colors (nearestIn (oklabAt oklab) n (toOklab c)) = read ∙ ap (rgbaAt colors) (near ∙ ap (nearestIn (oklabAt oklab) n) converted) in
-    λ q. record { 0 = e q }
+nearest-is colors scale oklab n k r c near read = let e : r ≡ rgbaAt colors (nearestIn (oklabAt oklab) n (toOklab c)) = read ∙ ap (rgbaAt colors) near in λ q. record { 0 = e q }
 
-module _ (cs : Candidates) (width : ℕ) (o : Oklab) (c : NormalizedColor) (at : BracketAt) (made : at ≡ bracketAtOf cs width o c) where
+-- what is remembered, by the kind
+module _ (t : Ditherer) (cs : Candidates) (memory : List ℕ) where
+  pub answers-both : isOrdered (t .kind) ≡ true → (Kept (answersOf t cs) memory → Kept (nearestBoth cs (t .«bracket_width»)) memory) × (Kept (nearestBoth cs (t .«bracket_width»)) memory → Kept (answersOf t cs) memory)
+  unfolding answersOf
+  answers-both e = (subst Of e, subst Of (sym e))
+    where
+      Of : Bool → Type 0
+      Of b = Kept (cond b (nearestBoth cs (t .«bracket_width»)) (nearestAlone (cs .oklab) (cs .count))) memory
+
+  pub answers-alone : isOrdered (t .kind) ≡ false → (Kept (answersOf t cs) memory → Kept (nearestAlone (cs .oklab) (cs .count)) memory) × (Kept (nearestAlone (cs .oklab) (cs .count)) memory → Kept (answersOf t cs) memory)
+  unfolding answersOf
+  answers-alone e = (subst Of e, subst Of (sym e))
+    where
+      Of : Bool → Type 0
+      Of b = Kept (cond b (nearestBoth cs (t .«bracket_width»)) (nearestAlone (cs .oklab) (cs .count))) memory
+
+module _ (cs : Candidates) (width : ℕ) (c : NormalizedColor) (at : BracketAt) (made : at ≡ bracketAtOf cs width (toOklab c) c) where
   -- the positions are entries of a list that holds the candidates
   pub bracket-entries : 0 < cs .count → ((k : ℕ) → k < cs .count → T (allInRange (cs .oklab k))) → (m : ℕ) → 4 * cs .count ≤ m → (4 * at .dark + 3 < m) × (4 * at .light + 3 < m)
   bracket-entries some range m room =
-      let inside = bracket-inside cs width o c some range in
+      let inside = bracket-inside cs width (toOklab c) c some range in
       subst (λ (b : BracketAt). (4 * b .dark + 3 < m) × (4 * b .light + 3 < m)) (sym made) (omega (arith, inside .0), omega (arith, inside .1))
 
-  pub ordered-is : (kind x y x′ y′ : ℕ) (bracket : Bracket) (threshold : Float) (r : ReducedColor) → o ≡ toOklab c → bracket ≡ colored (cs .reduced) at
+  pub ordered-is : (kind x y x′ y′ : ℕ) (bracket : Bracket) (threshold : Float) (r : ReducedColor) → bracket ≡ colored (cs .reduced) at
       → x ≡ x′ → y ≡ y′ → threshold ≡ thresholdAt kind x y → r ≡ pickAt bracket threshold → r ≡ orderedColor cs kind width x′ y′ c
   unfolding orderedColor
-  ordered-is kind x y x′ y′ bracket threshold r converted read X Y found picked =
-      let b : bracket ≡ colored (cs .reduced) (bracketAtOf cs width (toOklab c) c) = read ∙ ap (colored (cs .reduced)) (made ∙ ap (λ (p : Oklab). bracketAtOf cs width p c) converted) in
+  ordered-is kind x y x′ y′ bracket threshold r read X Y found picked =
+      let b : bracket ≡ colored (cs .reduced) (bracketAtOf cs width (toOklab c) c) = read ∙ ap (colored (cs .reduced)) made in
       let t : threshold ≡ thresholdAt kind x′ y′ = found ∙ (λ q. thresholdAt kind (X q) (Y q)) in
       picked ∙ (λ q. pickAt (b q) (t q))
 

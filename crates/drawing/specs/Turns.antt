@@ -2,6 +2,7 @@
 -- Written from document 01, "Choosing colours" and "Diffusion runs row by row, left to right".
 use Prim.Native.Nat.{ℕ, _+_, _*_, _≤_, _<_}
 use mathlib.Core.Path.{_≡_}
+use mathlib.Core.Bool.{cond}
 use mathlib.Core.List.{List, map}
 use lib.IntN.{ℤ}
 use lib.ListN.{length}
@@ -11,8 +12,10 @@ use Rattle.color.specs.declared.NormalizedColor.{NormalizedColor}
 use Rattle.color.specs.declared.ReducedColor.{ReducedColor}
 use Rattle.color.specs.Tables.{normalizeColor}
 use Rattle.conversion.specs.Linear.{values}
-use Rattle.patterns.specs.Kinds.{kernelOf}
+use Rattle.patterns.specs.Kinds.{isOrdered, kernelOf}
 use Rattle.shortlist.specs.Candidates.{Candidates, RangedList}
+use Rattle.lookup.specs.declared.Two.{Two}
+use Rattle.remembered.specs.Table.{nearestAlone, nearestBoth}
 use Rattle.diffusion.specs.Biased.{biasedColor}
 use Rattle.diffusion.specs.Scatter.{sends, scatter}
 use Rattle.diffusion.specs.Sends.{residualsOf}
@@ -48,3 +51,7 @@ pub record Diffused (t : Ditherer) (cs : Candidates) (scale : List ℕ) (zs : Li
 -- the cells when pixel i's turn comes, under a diffusion kind
 unfoldable pub cellsBefore : Drawing → ℕ → List Float
 cellsBefore d i = map sixteenths (scatter (kernelOf (d .kind)) (pictureOf d (drawn d)) i)
+
+-- what is remembered of a colour where no error is diffused: ordered kinds, the nearest and the second; Off, the nearest
+unfoldable pub answersOf : Ditherer → Candidates → NormalizedColor → Two
+answersOf t cs = cond (isOrdered (t .kind)) (nearestBoth cs (t .«bracket_width»)) (nearestAlone (cs .oklab) (cs .count))

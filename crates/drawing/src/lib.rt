@@ -11,10 +11,12 @@ ghost use lib.IntN.{ℤ};
 ghost use lib.ListN.{length};
 ghost use Rattle.floats.specs.Cells.{Cells};
 ghost use Rattle.patterns.specs.Kinds.{isOrdered, isDiffusion};
+ghost use Rattle.color.specs.Oklab.{oklabAt};
 ghost use Rattle.shortlist.specs.Candidates.{scaled};
+ghost use Rattle.remembered.specs.Table.{nearestAlone, nearestBoth, Kept};
 ghost use Rattle.drawing.specs.Drawing.{nearestColor, orderedColor, colorAt, drawn};
 ghost use Rattle.drawing.specs.Lent.{isZero, isSkipped, lent, drawingOf, reducedBytes, cellsAfter, Ready};
-ghost use Rattle.drawing.specs.Turns.{Linear, Choosable, Inside, Diffused, cellsBefore};
+ghost use Rattle.drawing.specs.Turns.{Linear, Choosable, Inside, Diffused, cellsBefore, answersOf};
 
 // A picture's colour zero: absent, or one reduced colour.
 pub enum ColorZero {
@@ -51,7 +53,7 @@ pub fn is_skipped(zero: ColorZero, c: ReducedColor) -> bool
 
 // ---- one colour
 
-// The reduced colour of the nearest candidate. No public call: the caller sees to the table and the candidates.
+// The reduced colour of the nearest candidate. No public call: the caller sees to the table, the candidates and the memory.
 fn nearest_color(
     linear: &[u64; 256],
     colors: &[u8],
@@ -59,12 +61,13 @@ fn nearest_color(
     oklab: &[f32],
     count: usize,
     color: NormalizedColor,
+    memory: &mut [u64; 257],
 ) -> ReducedColor
-    requires { ⌜ Linear (now linear) × Choosable (now colors) (now scale) (now oklab) count ⌝ }
-    ensures { λ c. ⌜ c ≡ nearestColor (scaled (now (colors .entry)) (now (scale .entry)) (now (oklab .entry)) count) color ⌝ }
+    requires { ⌜ Linear (now linear) × Choosable (now colors) (now scale) (now oklab) count × Kept (nearestAlone (oklabAt (now oklab)) count) (now memory) ⌝ }
+    ensures { λ c. ⌜ (c ≡ nearestColor (scaled (now (colors .entry)) (now (scale .entry)) (now (oklab .entry)) count) color)
+        × Kept (nearestAlone (oklabAt (now (oklab .entry))) count) (now (memory .exit)) ⌝ }
 {
-    let o = conversion::to_oklab_with(linear, color);
-    let k = shortlist::near::nearest_position(oklab, count, o);
+    let k = remembered::nearest_position(linear, oklab, count, color, memory);
     ReducedColor(color::rgba_at(colors, k))
 }
 
@@ -112,14 +115,25 @@ impl Ditherer {
         count: usize,
         i: usize,
         color: NormalizedColor,
+        memory: &mut [u64; 257],
     ) -> ReducedColor
-        requires { ⌜ Linear (now linear) × Choosable (now colors) (now scale) (now oklab) count × Inside self i × (isOrdered (self .kind) ≡ true) ⌝ }
-        ensures { λ c. ⌜ c ≡ orderedColor (scaled (now (colors .entry)) (now (scale .entry)) (now (oklab .entry)) count) (self .kind) (self .«bracket_width»)
-            (self .«origin_x» + i % self .width) (self .«origin_y» + i / self .width) color ⌝ }
+        requires { ⌜ Linear (now linear) × Choosable (now colors) (now scale) (now oklab) count × Inside self i × (isOrdered (self .kind) ≡ true)
+            × Kept (nearestBoth (scaled (now colors) (now scale) (now oklab) count) (self .«bracket_width»)) (now memory) ⌝ }
+        ensures { λ c. ⌜ (c ≡ orderedColor (scaled (now (colors .entry)) (now (scale .entry)) (now (oklab .entry)) count) (self .kind) (self .«bracket_width»)
+            (self .«origin_x» + i % self .width) (self .«origin_y» + i / self .width) color)
+            × Kept (nearestBoth (scaled (now (colors .entry)) (now (scale .entry)) (now (oklab .entry)) count) (self .«bracket_width»)) (now (memory .exit)) ⌝ }
     {
-        let o = conversion::to_oklab_with(linear, color);
         let width = self.bracket_width;
-        let at = lookup::brackets::bracket_positions(oklab, colors, scale, count, width, o, color);
+        let at = remembered::bracket_positions(
+            linear,
+            oklab,
+            colors,
+            scale,
+            count,
+            width,
+            color,
+            memory,
+        );
         let bracket = lookup::brackets::bracket_at(colors, at);
         let x = self.source_column(i);
         let y = self.source_row(i);
@@ -137,15 +151,18 @@ impl Ditherer {
         count: usize,
         i: usize,
         color: NormalizedColor,
+        memory: &mut [u64; 257],
     ) -> ReducedColor
-        requires { ⌜ Linear (now linear) × Choosable (now colors) (now scale) (now oklab) count × Inside self i ⌝ }
-        ensures { λ c. ⌜ c ≡ colorAt (scaled (now (colors .entry)) (now (scale .entry)) (now (oklab .entry)) count) (self .kind) (self .«bracket_width»)
-            (self .«origin_x» + i % self .width) (self .«origin_y» + i / self .width) color ⌝ }
+        requires { ⌜ Linear (now linear) × Choosable (now colors) (now scale) (now oklab) count × Inside self i
+            × Kept (answersOf self (scaled (now colors) (now scale) (now oklab) count)) (now memory) ⌝ }
+        ensures { λ c. ⌜ (c ≡ colorAt (scaled (now (colors .entry)) (now (scale .entry)) (now (oklab .entry)) count) (self .kind) (self .«bracket_width»)
+            (self .«origin_x» + i % self .width) (self .«origin_y» + i / self .width) color)
+            × Kept (answersOf self (scaled (now (colors .entry)) (now (scale .entry)) (now (oklab .entry)) count)) (now (memory .exit)) ⌝ }
     {
         if patterns::is_ordered(self.kind) {
-            return self.ordered_color_at(linear, colors, scale, oklab, count, i, color);
+            return self.ordered_color_at(linear, colors, scale, oklab, count, i, color, memory);
         }
-        nearest_color(linear, colors, scale, oklab, count, color)
+        nearest_color(linear, colors, scale, oklab, count, color, memory)
     }
 
     // What is chosen for a colour at pixel i, whose cells are lent: the nearest to the biased colour, whose residual is
@@ -159,15 +176,18 @@ impl Ditherer {
         count: usize,
         i: usize,
         color: NormalizedColor,
+        memory: &mut [u64; 257],
         cells: &mut [f32],
     ) -> ReducedColor
         requires { ⌜ Linear (now linear) × Choosable (now colors) (now scale) (now oklab) count × Inside self i × (isDiffusion (self .kind) ≡ true)
-            × (length (now cells) ≡ 3 * (self .width * self .height)) × ((zs : List ℤ) × Cells 4080 (now cells) zs) ⌝ }
+            × (length (now cells) ≡ 3 * (self .width * self .height)) × ((zs : List ℤ) × Cells 4080 (now cells) zs)
+            × Kept (nearestAlone (oklabAt (now oklab)) count) (now memory) ⌝ }
         ensures { λ c. ⌜ ((zs : List ℤ) → Cells 4080 (now (cells .entry)) zs
-            → Diffused self (scaled (now (colors .entry)) (now (scale .entry)) (now (oklab .entry)) count) (now (scale .entry)) zs i color c (now (cells .exit))) ⌝ }
+            → Diffused self (scaled (now (colors .entry)) (now (scale .entry)) (now (oklab .entry)) count) (now (scale .entry)) zs i color c (now (cells .exit)))
+            × Kept (nearestAlone (oklabAt (now (oklab .entry))) count) (now (memory .exit)) ⌝ }
     {
         let biased = diffusion::biased_color(cells, i, color);
-        let chosen = nearest_color(linear, colors, scale, oklab, count, biased);
+        let chosen = nearest_color(linear, colors, scale, oklab, count, biased, memory);
         let normalized = color::normalize_color(scale, chosen);
         let x = self.column(i);
         let y = self.row(i);
@@ -198,17 +218,20 @@ impl Ditherer {
         oklab: &[f32],
         count: usize,
         i: usize,
+        memory: &mut [u64; 257],
     ) -> ReducedColor
         requires { ⌜ Linear (now linear) × Ready self zero (lent (now reduction) (now scale) (now pixels) (now colors) (now oklab) count)
-            × (isDiffusion (self .kind) ≡ false) × (i < self .width * self .height) ⌝ }
-        ensures { λ c. ⌜ c ≡ drawn (drawingOf self zero (lent (now (reduction .entry)) (now (scale .entry)) (now (pixels .entry)) (now (colors .entry)) (now (oklab .entry)) count)) i ⌝ }
+            × (isDiffusion (self .kind) ≡ false) × (i < self .width * self .height)
+            × Kept (answersOf self (scaled (now colors) (now scale) (now oklab) count)) (now memory) ⌝ }
+        ensures { λ c. ⌜ (c ≡ drawn (drawingOf self zero (lent (now (reduction .entry)) (now (scale .entry)) (now (pixels .entry)) (now (colors .entry)) (now (oklab .entry)) count)) i)
+            × Kept (answersOf self (scaled (now (colors .entry)) (now (scale .entry)) (now (oklab .entry)) count)) (now (memory .exit)) ⌝ }
     {
         let kept = picture::pixel_at(reduction, pixels, i);
         if is_skipped(zero, kept) {
             return kept;
         }
         let color = picture::source_at(pixels, i);
-        self.color_at(linear, colors, scale, oklab, count, i, color)
+        self.color_at(linear, colors, scale, oklab, count, i, color, memory)
     }
 
     // What pixel i chooses where error is diffused: a skipped one leaves the cells alone. No public call: the caller sees to
@@ -224,20 +247,23 @@ impl Ditherer {
         oklab: &[f32],
         count: usize,
         i: usize,
+        memory: &mut [u64; 257],
         cells: &mut [f32],
     ) -> ReducedColor
         requires { ⌜ Linear (now linear) × Ready self zero (lent (now reduction) (now scale) (now pixels) (now colors) (now oklab) count)
             × (isDiffusion (self .kind) ≡ true) × (i < self .width * self .height)
-            × (now cells ≡ cellsBefore (drawingOf self zero (lent (now reduction) (now scale) (now pixels) (now colors) (now oklab) count)) i) ⌝ }
+            × (now cells ≡ cellsBefore (drawingOf self zero (lent (now reduction) (now scale) (now pixels) (now colors) (now oklab) count)) i)
+            × Kept (nearestAlone (oklabAt (now oklab)) count) (now memory) ⌝ }
         ensures { λ c. ⌜ (c ≡ drawn (drawingOf self zero (lent (now (reduction .entry)) (now (scale .entry)) (now (pixels .entry)) (now (colors .entry)) (now (oklab .entry)) count)) i)
-            × (now (cells .exit) ≡ cellsBefore (drawingOf self zero (lent (now (reduction .entry)) (now (scale .entry)) (now (pixels .entry)) (now (colors .entry)) (now (oklab .entry)) count)) (i + 1)) ⌝ }
+            × (now (cells .exit) ≡ cellsBefore (drawingOf self zero (lent (now (reduction .entry)) (now (scale .entry)) (now (pixels .entry)) (now (colors .entry)) (now (oklab .entry)) count)) (i + 1))
+            × Kept (nearestAlone (oklabAt (now (oklab .entry))) count) (now (memory .exit)) ⌝ }
     {
         let c = picture::pixel_at(reduction, pixels, i);
         if is_skipped(zero, c) {
             return c;
         }
         let color = picture::source_at(pixels, i);
-        self.diffusion_color_at(linear, colors, scale, oklab, count, i, color, cells)
+        self.diffusion_color_at(linear, colors, scale, oklab, count, i, color, memory, cells)
     }
 
     // ---- the whole picture
@@ -253,10 +279,12 @@ impl Ditherer {
         colors: &[u8],
         oklab: &[f32],
         count: usize,
+        memory: &mut [u64; 257],
         out: &mut [u8],
     )
         requires { ⌜ Linear (now linear) × Ready self zero (lent (now reduction) (now scale) (now pixels) (now colors) (now oklab) count)
-            × (isDiffusion (self .kind) ≡ false) × (length (now out) ≡ 4 * (self .width * self .height)) ⌝ }
+            × (isDiffusion (self .kind) ≡ false) × (length (now out) ≡ 4 * (self .width * self .height))
+            × Kept (answersOf self (scaled (now colors) (now scale) (now oklab) count)) (now memory) ⌝ }
         ensures { λ _. ⌜ now (out .exit) ≡ reducedBytes (drawingOf self zero (lent (now (reduction .entry)) (now (scale .entry)) (now (pixels .entry)) (now (colors .entry)) (now (oklab .entry)) count)) ⌝ }
     {
         let size = self.width as usize * self.height as usize;
@@ -272,6 +300,7 @@ impl Ditherer {
                 oklab,
                 count,
                 i,
+                memory,
             );
             color::put_rgba(out, i, c.0);
             i += 1;
@@ -289,11 +318,13 @@ impl Ditherer {
         colors: &[u8],
         oklab: &[f32],
         count: usize,
+        memory: &mut [u64; 257],
         out: &mut [u8],
         cells: &mut [f32],
     )
         requires { ⌜ Linear (now linear) × Ready self zero (lent (now reduction) (now scale) (now pixels) (now colors) (now oklab) count)
-            × (isDiffusion (self .kind) ≡ true) × (length (now out) ≡ 4 * (self .width * self .height)) × (length (now cells) ≡ 3 * (self .width * self .height)) ⌝ }
+            × (isDiffusion (self .kind) ≡ true) × (length (now out) ≡ 4 * (self .width * self .height)) × (length (now cells) ≡ 3 * (self .width * self .height))
+            × Kept (nearestAlone (oklabAt (now oklab)) count) (now memory) ⌝ }
         ensures { λ _. ⌜ (now (out .exit) ≡ reducedBytes (drawingOf self zero (lent (now (reduction .entry)) (now (scale .entry)) (now (pixels .entry)) (now (colors .entry)) (now (oklab .entry)) count)))
             × (now (cells .exit) ≡ cellsBefore (drawingOf self zero (lent (now (reduction .entry)) (now (scale .entry)) (now (pixels .entry)) (now (colors .entry)) (now (oklab .entry)) count)) (self .width * self .height)) ⌝ }
     {
@@ -311,6 +342,7 @@ impl Ditherer {
                 oklab,
                 count,
                 i,
+                memory,
                 cells,
             );
             color::put_rgba(out, i, chosen.0);
@@ -338,6 +370,7 @@ impl Ditherer {
             × (now (cells .exit) ≡ cellsAfter (drawingOf self zero (lent (now (reduction .entry)) (now (scale .entry)) (now (pixels .entry)) (now (colors .entry)) (now (oklab .entry)) count)) (now (cells .entry))) ⌝ }
     {
         let linear = conversion::linear::linear_table();
+        let mut memory = [0u64; 257];
         if patterns::is_diffusion(self.kind) {
             self.draw_diffused(
                 zero,
@@ -348,6 +381,7 @@ impl Ditherer {
                 colors,
                 oklab,
                 count,
+                &mut memory,
                 out,
                 cells,
             );
@@ -361,6 +395,7 @@ impl Ditherer {
                 colors,
                 oklab,
                 count,
+                &mut memory,
                 out,
             );
         }

@@ -12,7 +12,7 @@ use Rattle.floats.specs.Bytes.{zeroF, oneF}
 use Rattle.floats.specs.Over.{over}
 use Rattle.mixing.specs.declared.Width.{Width}
 use Rattle.mixing.specs.declared.Width.the-variants.{Of, Refused}
-use Rattle.mixing.specs.Lerp.{lerpOf, minusZero}
+use Rattle.mixing.specs.Lerp.{lerpOf}
 use Rattle.mixing.specs.Widths.{bracketWidthOf}
 use Rattle.patterns.specs.declared.Thresholded.{Thresholded}
 use Rattle.patterns.specs.declared.Thresholded.the-variants as thresholded

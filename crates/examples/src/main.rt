@@ -1,12 +1,16 @@
 // The worked examples of document 01, run: one line each, its name and "same" or "differs".
+mod account;
+mod pictures;
+
 use color::NormalizedColor;
 use color::Oklab;
 use libc::STDOUT_FILENO;
 use mixing::Width;
 use patterns::Thresholded;
-use quantize::Reply;
 
-fn told(same: bool) {
+// An example's line.
+fn line(name: &[u8], same: bool) {
+    io::write_all(STDOUT_FILENO, name);
     if same {
         io::write_all(STDOUT_FILENO, b" same\n");
     } else {
@@ -97,49 +101,16 @@ fn e6() -> bool {
         & ((clipped == 255) & loss_is(250, 320, clipped, 240, 0))
 }
 
-// ---- E11: palettes of 256 and 257 entries
-
-fn number_for(palette: &[u8]) -> u8 {
-    let table = [0u8; 256];
-    let pixel = [9u8, 9, 9, 255];
-    let mut index = [7u8; 1];
-    let mut out = [7u8; 4];
-    let mut cells = [0.0f32; 0];
-    match quantize::quantize_pixels(
-        3,
-        0,
-        1,
-        1,
-        &table,
-        &table,
-        palette,
-        &pixel,
-        &mut index,
-        &mut out,
-        &mut cells,
-    ) {
-        Reply::Accepted => 0,
-        Reply::Refused(number) => number,
-    }
-}
-
-fn e11() -> bool {
-    (number_for(&[0u8; 1024]) == 0) & (number_for(&[0u8; 1028]) == 4)
-}
-
 fn main() {
-    io::write_all(STDOUT_FILENO, b"E1");
-    told(e1());
-    io::write_all(STDOUT_FILENO, b"E2");
-    told(e2());
-    io::write_all(STDOUT_FILENO, b"E3");
-    told(e3());
-    io::write_all(STDOUT_FILENO, b"E4");
-    told(e4());
-    io::write_all(STDOUT_FILENO, b"E5");
-    told(e5());
-    io::write_all(STDOUT_FILENO, b"E6");
-    told(e6());
-    io::write_all(STDOUT_FILENO, b"E11");
-    told(e11());
+    line(b"E1", e1());
+    line(b"E2", e2());
+    line(b"E3", e3());
+    line(b"E4", e4());
+    line(b"E5", e5());
+    line(b"E6", e6());
+    line(b"E7", pictures::e7());
+    line(b"E8", pictures::e8());
+    line(b"E9", pictures::e9());
+    line(b"E10", pictures::e10());
+    line(b"E11", pictures::e11());
 }

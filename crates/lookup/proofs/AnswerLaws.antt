@@ -1,8 +1,9 @@
 -- The answers of the flat calls: what each is by the number of the list; that number is the answer's number, and the lowest that applies; and an
 -- accepted list's answer is the first of the least distances, from the colour as it is converted. Assumes nothing.
-use mathlib.Core.Path.{_≡_, refl, sym, ap, _∙_}
+use mathlib.Core.Path.{_≡_, refl, sym, ap, _∙_, subst}
 use mathlib.Core.List.{List}
 use Prim.Native.Nat.{ℕ, zero, suc, _/_, _<_}
+use lib.Dec.{T}
 use lib.ListN.{length}
 use lib.Ieee.{Float, lt}
 use Rattle.lists.specs.Least.{Least}
@@ -10,7 +11,7 @@ use Rattle.lists.specs.Lowest.{Lowest, after}
 use Rattle.lists.proofs.LowestLaws.{lowest-is, after-accepted, after-refused}
 use Rattle.color.specs.declared.NormalizedColor.{NormalizedColor}
 use Rattle.color.specs.declared.Oklab.{Oklab}
-use Rattle.color.specs.Oklab.{oklabAt}
+use Rattle.color.specs.Oklab.{allInRange, oklabAt}
 use Rattle.color.proofs.Distances.{range-all-in}
 use Rattle.conversion.specs.Oklab.{toOklab}
 use Rattle.conversion.proofs.OklabLaws.{ranged}
@@ -40,6 +41,10 @@ module _ {A : Type 0} (refusal : ℕ → A) where
   numbered number zero result e h = e
   numbered number (suc n) result e h = h (suc n)
 
+-- what a colour is converted to is from -2 to 2
+pub in-range : (color : NormalizedColor) (o : Oklab) → o ≡ toOklab color → color .0 .r < 256 → color .0 .g < 256 → color .0 .b < 256 → T (allInRange o)
+in-range color o e R G B = subst (λ (p : Oklab). T (allInRange p)) (sym e) (range-all-in (toOklab color) (ranged color R G B))
+
 module _ (reduced normalized : List ℕ) (oklab : List Float) where
   -- the number of a list is the lowest that applies
   pub number-is : Lowest (listReplies reduced normalized oklab) (listNumber reduced normalized oklab)
@@ -54,7 +59,7 @@ module _ (reduced normalized : List ℕ) (oklab : List Float) where
     -- no entry is nearer, and every earlier entry is farther
     pub flat-least : listNumber reduced normalized oklab ≡ 0 → color .0 .r < 256 → color .0 .g < 256 → color .0 .b < 256
         → Least lt (distances (toOklab color) (oklabAt oklab)) (length reduced / 4) (nearestOf (flat reduced normalized oklab) (toOklab color))
-    flat-least e R G B = let A = accepted reduced normalized oklab e in nearest-least (flat reduced normalized oklab) (toOklab color) (A .positive) (A .ranged .range) (range-all-in (toOklab color) (ranged color R G B))
+    flat-least e R G B = let A = accepted reduced normalized oklab e in nearest-least (flat reduced normalized oklab) (toOklab color) (A .positive) (A .ranged .range) (in-range color (toOklab color) refl R G B)
 
     module _ (width : ℕ) where
       pub nearest-two-number : numberOfTwo (nearestTwoAnswer reduced normalized oklab color width) ≡ listNumber reduced normalized oklab

@@ -12,14 +12,15 @@ use color::rgba_at;
 use mixing::lerp;
 ghost use mathlib.Core.Path.{_≡_};
 ghost use Prim.Native.Nat.{_+_, _*_, _<_, _≤_};
+ghost use lib.Dec.{T};
 ghost use lib.ListN.{length};
 ghost use Rattle.color.specs.Color.{reducedAt};
-ghost use Rattle.color.specs.Oklab.{oklabAt};
+ghost use Rattle.color.specs.Oklab.{allInRange, oklabAt};
 ghost use Rattle.shortlist.specs.Candidates.{normals, scaled, RangedList};
 ghost use Rattle.lookup.specs.Bracket.{bracketWith, bracketAtOf, colored};
 
 // The bracket of entries a and b. No public call: the caller sees to lengths and positions.
-fn bracket_with(
+pub fn bracket_with(
     oklab: &[f32],
     colors: &[u8],
     scale: &[u8],
@@ -50,7 +51,8 @@ fn bracket_with(
     }
 }
 
-// The positions of the bracket for a colour, and its ratio. No public call: the caller sees to lengths, count and range.
+// The positions of the bracket for a colour, and its ratio. The search for the nearest begins at the seed. No public call:
+// the caller sees to lengths, range and seed.
 pub fn bracket_positions(
     oklab: &[f32],
     colors: &[u8],
@@ -59,11 +61,12 @@ pub fn bracket_positions(
     width: u64,
     o: Oklab,
     color: NormalizedColor,
+    seed: usize,
 ) -> BracketAt
-    requires { ⌜ (0 < count) × (4 * count ≤ length (now colors)) × (length (now scale) ≡ 256) × RangedList (now oklab) count ⌝ }
+    requires { ⌜ (seed < count) × (4 * count ≤ length (now colors)) × (length (now scale) ≡ 256) × RangedList (now oklab) count × T (allInRange o) ⌝ }
     ensures { λ r. ⌜ r ≡ bracketAtOf (scaled (now (colors .entry)) (now (scale .entry)) (now (oklab .entry)) count) width o color ⌝ }
 {
-    let two = nearest_two_positions(oklab, colors, scale, count, width, o, color);
+    let two = nearest_two_positions(oklab, colors, scale, count, width, o, color, seed);
     let a = two.first;
     let second = two.second;
     let Second::At(b) = second else {

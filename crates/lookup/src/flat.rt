@@ -7,6 +7,8 @@ use super::seconds::nearest_two_positions;
 use color::NormalizedColor;
 use color::Oklab;
 ghost use mathlib.Core.Path.{_≡_};
+ghost use lib.Dec.{T};
+ghost use Rattle.color.specs.Oklab.{allInRange};
 ghost use Rattle.shortlist.specs.Candidates.{flat};
 ghost use Rattle.lookup.specs.Second.{nearestTwoOf};
 ghost use Rattle.lookup.specs.Bracket.{bracketOf};
@@ -277,7 +279,7 @@ fn identity_table() -> [u8; 256]
     IDENTITY
 }
 
-// The nearest two. No public call: the caller sees to the lists.
+// The nearest two. No public call: the caller sees to the lists and the range.
 pub fn two_of(
     reduced: &[u8],
     normalized: &[u8],
@@ -286,7 +288,7 @@ pub fn two_of(
     o: Oklab,
     color: NormalizedColor,
 ) -> Two
-    requires { ⌜ listNumber (now reduced) (now normalized) (now oklab) ≡ 0 ⌝ }
+    requires { ⌜ (listNumber (now reduced) (now normalized) (now oklab) ≡ 0) × T (allInRange o) ⌝ }
     ensures { λ r. ⌜ r ≡ nearestTwoOf (flat (now (reduced .entry)) (now (normalized .entry)) (now (oklab .entry))) width o color ⌝ }
 {
     let scale = identity_table();
@@ -298,10 +300,11 @@ pub fn two_of(
         width,
         o,
         color,
+        0,
     )
 }
 
-// The bracket. No public call: the caller sees to the lists.
+// The bracket. No public call: the caller sees to the lists and the range.
 pub fn bracket_of(
     reduced: &[u8],
     normalized: &[u8],
@@ -310,7 +313,7 @@ pub fn bracket_of(
     o: Oklab,
     color: NormalizedColor,
 ) -> Bracket
-    requires { ⌜ listNumber (now reduced) (now normalized) (now oklab) ≡ 0 ⌝ }
+    requires { ⌜ (listNumber (now reduced) (now normalized) (now oklab) ≡ 0) × T (allInRange o) ⌝ }
     ensures { λ r. ⌜ r ≡ bracketOf (flat (now (reduced .entry)) (now (normalized .entry)) (now (oklab .entry))) width o color ⌝ }
 {
     let scale = identity_table();
@@ -322,6 +325,7 @@ pub fn bracket_of(
         width,
         o,
         color,
+        0,
     );
     bracket_at(reduced, at)
 }

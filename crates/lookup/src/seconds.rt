@@ -13,7 +13,9 @@ use shortlist::near::nearest_position;
 use shortlist::shortlist;
 ghost use mathlib.Core.Path.{_≡_};
 ghost use Prim.Native.Nat.{ℕ, _+_, _*_, _<_, _≤_};
+ghost use lib.Dec.{T};
 ghost use lib.ListN.{length, getD, take};
+ghost use Rattle.color.specs.Oklab.{allInRange};
 ghost use Rattle.mixing.specs.Lerp.{between};
 ghost use Rattle.shortlist.specs.Candidates.{normals, scaled, RangedList};
 ghost use Rattle.lookup.specs.Second.{mixable, mixError, secondOf, nearestTwoOf, those, Held, improved, weighed};
@@ -119,7 +121,8 @@ pub fn second_of(
     Second::Nothing
 }
 
-// The nearest entry to the colour, and the second. No public call: the caller sees to lengths, count and range.
+// The nearest entry to the colour, and the second. The search for the nearest begins at the seed. No public call: the caller
+// sees to lengths, range and seed.
 pub fn nearest_two_positions(
     oklab: &[f32],
     colors: &[u8],
@@ -128,11 +131,12 @@ pub fn nearest_two_positions(
     width: u64,
     o: Oklab,
     color: NormalizedColor,
+    seed: usize,
 ) -> Two
-    requires { ⌜ (0 < count) × (4 * count ≤ length (now colors)) × (length (now scale) ≡ 256) × RangedList (now oklab) count ⌝ }
+    requires { ⌜ (seed < count) × (4 * count ≤ length (now colors)) × (length (now scale) ≡ 256) × RangedList (now oklab) count × T (allInRange o) ⌝ }
     ensures { λ r. ⌜ r ≡ nearestTwoOf (scaled (now (colors .entry)) (now (scale .entry)) (now (oklab .entry)) count) width o color ⌝ }
 {
-    let a = nearest_position(oklab, count, o);
+    let a = nearest_position(oklab, count, o, seed);
     let mut positions = [0usize; 16];
     let mut far = [0.0f32; 16];
     let found = shortlist(oklab, count, a, width, &mut positions, &mut far);

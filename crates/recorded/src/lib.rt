@@ -1,8 +1,9 @@
-// The recorded list as text: the tokens of a line, the numbers and floats that they hold, and comparisons with them. Nothing here
-// trusts the list: what lies outside a slice is an empty part, or 0.
+// The recorded list as text: the tokens of a line, the numbers, floats and colours that they hold, and comparisons with them.
+// Nothing here trusts the list: what lies outside a slice is an empty part, or 0.
 //
 // The tokens of a line are read into a room: byte 62 says how many there are, or 255 where the line is malformed; the two
 // bytes at 2 * k say where token k ends; the bytes of the tokens lie one after the other from byte 64 on.
+use color::ReducedColor;
 ghost use Prim.Native.Nat.{_<_, _≤_};
 
 // ---- bytes of a slice
@@ -211,8 +212,17 @@ pub fn is_position(room: &[u8], k: usize, n: usize) -> bool {
     (part(room, k).len() == 4) & (number(room, k) == n as u64)
 }
 
+pub fn is_word(room: &[u8], k: usize, n: u32) -> bool {
+    writes_word(part(room, k), n)
+}
+
 pub fn is_long(room: &[u8], k: usize, n: u64) -> bool {
     (part(room, k).len() == 8) & (number(room, k) == n)
+}
+
+// Whether token k has no bytes.
+pub fn is_empty(room: &[u8], k: usize) -> bool {
+    part(room, k).len() == 0
 }
 
 // Whether token k is this number, and the tokens after it are empty.
@@ -250,8 +260,15 @@ pub fn float_at(p: &[u8], i: usize) -> f32 {
     float_of(word_of(float_piece(p, i)))
 }
 
+// As many as there are, but no more than a buffer has. A token that is longer is cut by this, and its case then differs.
+pub fn up_to(n: usize, most: usize) -> usize
+    ensures { λ r. ⌜ r ≤ most ⌝ }
+{
+    if n <= most { n } else { most }
+}
+
 // Copies a part into a lent buffer; what the part lacks is 0.
-pub fn copy(out: &mut [u8], p: &[u8]) {
+fn copy(out: &mut [u8], p: &[u8]) {
     let mut i = 0;
     while i < out.len() {
         out[i] = byte_at(p, i);
@@ -291,8 +308,22 @@ pub fn are_floats(room: &[u8], k: usize, floats: &[f32]) -> bool {
     writes_floats(part(room, k), floats)
 }
 
+// Reads the bytes of token k. Answers whether it has just so many.
+pub fn bytes_into(room: &[u8], k: usize, out: &mut [u8]) -> bool {
+    copy(out, part(room, k));
+    part(room, k).len() == out.len()
+}
+
 // Reads the floats of token k. Answers whether it has just so many, and no NaN.
 pub fn floats(room: &[u8], k: usize, out: &mut [f32]) -> bool {
     fill(out, part(room, k));
     are_floats(room, k, out)
+}
+
+// ---- colours
+
+// The reduced colour of token k.
+pub fn reduced(room: &[u8], k: usize) -> ReducedColor {
+    let p = part(room, k);
+    ReducedColor::new(byte_at(p, 0), byte_at(p, 1), byte_at(p, 2), byte_at(p, 3))
 }

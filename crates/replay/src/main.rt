@@ -1,9 +1,6 @@
 // Replays the recorded list of the original's answers, read from standard input, against our calls. Prints one line a
 // group: its name, how many cases it has, and "same", or "differs at" and the number of the first case that differs.
 // A line of the list is a comment (#), the name of a group (g), the two lent tables for the cases after it (k), or a case.
-mod cases;
-mod pictures;
-
 use libc::STDIN_FILENO;
 use libc::STDOUT_FILENO;
 ghost use mathlib.Core.Path.{_≡_};
@@ -95,7 +92,7 @@ fn told(s: State) {
 
 // The line of the tables, where the call is lent them.
 fn tables(list: &[u8], letter: u8, s: State) -> &[u8] {
-    if cases::has_tables(letter) {
+    if picture_cases::has_tables(letter) {
         return recorded::piece(list, s.tables, s.tables_end);
     }
     recorded::piece(list, 0, 0)
@@ -106,6 +103,9 @@ fn same(tables: &[u8], line: &[u8], letter: u8, room: &mut [u8]) -> bool {
     recorded::clear(room);
     recorded::decode(tables, room);
     recorded::decode(line, room);
+    if picture_cases::has_tables(letter) {
+        return picture_cases::same(letter, room);
+    }
     cases::same(letter, room)
 }
 

@@ -1,5 +1,6 @@
 -- The laws of `shortlist`.
 pub mod NearestLaws
+mod LeaderLaws
 mod PlaceLaws
 mod InsertLaws
 pub mod RankedLaws

@@ -1,12 +1,23 @@
-// The nearest entry of a flat list of Oklab colours.
+// The nearest entry of a flat list of Oklab colours. A short list is searched entry by entry; a longer one from a seed, eight
+// entries at a time: eight that are all farther than the leader are passed over, and where the last search ended is a good
+// seed. The seed changes nothing but the time.
 use color::Oklab;
 use color::oklab_at;
 use color::sqdist;
 ghost use mathlib.Core.Path.{_≡_};
-ghost use Prim.Native.Nat.{_+_, _*_, _<_, _≤_};
+ghost use Prim.Native.Nat.{ℕ, _+_, _*_, _<_, _≤_};
+ghost use lib.Dec.{T};
 ghost use lib.ListN.{length};
-ghost use Rattle.color.specs.Oklab.{oklabAt};
-ghost use Rattle.shortlist.specs.Nearest.{distances, nearestIn};
+ghost use lib.Ieee.{Float};
+ghost use Rattle.color.specs.Oklab.{allInRange, oklabAt};
+ghost use Rattle.shortlist.specs.Candidates.{RangedList};
+ghost use Rattle.shortlist.specs.Nearest.{distances, nearestIn, farther, Onward};
+
+// The entry in front so far, and its distance.
+pub struct Leader {
+    pub position: usize,
+    pub distance: f32,
+}
 
 // How far entry k is from a colour. No public call: the caller sees to the length.
 pub fn distance_to(oklab: &[f32], k: usize, o: Oklab) -> f32
@@ -16,8 +27,71 @@ pub fn distance_to(oklab: &[f32], k: usize, o: Oklab) -> f32
     sqdist(o, oklab_at(oklab, k))
 }
 
-// The position of the smallest distance, the first of equals. No public call: the caller sees to the length.
-pub fn nearest_position(oklab: &[f32], count: usize, o: Oklab) -> usize
+// Whether the eight entries from k on are all farther than a limit. No branch, so that the eight are worked out side by side.
+// No public call: the caller sees to the length.
+pub fn eight_farther(oklab: &[f32], k: usize, o: Oklab, limit: f32) -> bool
+    requires { ⌜ 3 * k + 23 < length (now oklab) ⌝ }
+    ensures { λ r. ⌜ r ≡ farther (distances o (oklabAt (now (oklab .entry)))) limit k 8 ⌝ }
+{
+    let d0 = distance_to(oklab, k, o);
+    let d1 = distance_to(oklab, k + 1, o);
+    let d2 = distance_to(oklab, k + 2, o);
+    let d3 = distance_to(oklab, k + 3, o);
+    let d4 = distance_to(oklab, k + 4, o);
+    let d5 = distance_to(oklab, k + 5, o);
+    let d6 = distance_to(oklab, k + 6, o);
+    let d7 = distance_to(oklab, k + 7, o);
+    (limit < d0)
+        & (limit < d1)
+        & (limit < d2)
+        & (limit < d3)
+        & (limit < d4)
+        & (limit < d5)
+        & (limit < d6)
+        & (limit < d7)
+}
+
+// The leader after entry k, at distance d: k where it is nearer, or as near and before the leader.
+fn leader_after(leader: Leader, k: usize, d: f32) -> Leader
+    ensures { λ r. ⌜ ((f : ℕ → Float) → d ≡ f k → Onward f k (k + 1) leader r) ⌝ }
+{
+    if (d < leader.distance) | (!(leader.distance < d) & (k < leader.position)) {
+        return Leader {
+            position: k,
+            distance: d,
+        };
+    }
+    leader
+}
+
+// The leader after the entries from `from` to before `to`, one by one.
+fn leader_by_one(oklab: &[f32], o: Oklab, from: usize, to: usize, start: Leader) -> Leader
+    requires { ⌜ (from ≤ to) × (3 * to ≤ length (now oklab)) ⌝ }
+    ensures { λ r. ⌜ Onward (distances o (oklabAt (now (oklab .entry)))) from to start r ⌝ }
+{
+    let mut leader = start;
+    let mut k = from;
+    while k < to {
+        let d = distance_to(oklab, k, o);
+        leader = leader_after(leader, k, d);
+        k += 1;
+    }
+    leader
+}
+
+// The leader after eight entries from k on: one by one only where one of them may come to the front.
+fn leader_by_eight(oklab: &[f32], o: Oklab, k: usize, leader: Leader) -> Leader
+    requires { ⌜ 3 * k + 23 < length (now oklab) ⌝ }
+    ensures { λ r. ⌜ Onward (distances o (oklabAt (now (oklab .entry)))) k (k + 8) leader r ⌝ }
+{
+    if eight_farther(oklab, k, o, leader.distance) {
+        return leader;
+    }
+    leader_by_one(oklab, o, k, k + 8, leader)
+}
+
+// The nearest of a short list: no seed and no blocks.
+fn nearest_by_one(oklab: &[f32], count: usize, o: Oklab) -> usize
     requires { ⌜ (0 < count) × (3 * count ≤ length (now oklab)) ⌝ }
     ensures { λ r. ⌜ r ≡ nearestIn (oklabAt (now (oklab .entry))) count o ⌝ }
 {
@@ -33,4 +107,35 @@ pub fn nearest_position(oklab: &[f32], count: usize, o: Oklab) -> usize
         i += 1;
     }
     best
+}
+
+// The nearest of a list, from a seed on.
+fn nearest_by_eight(oklab: &[f32], count: usize, o: Oklab, seed: usize) -> usize
+    requires { ⌜ RangedList (now oklab) count × T (allInRange o) × (seed < count) ⌝ }
+    ensures { λ r. ⌜ r ≡ nearestIn (oklabAt (now (oklab .entry))) count o ⌝ }
+{
+    let d = distance_to(oklab, seed, o);
+    let mut leader = Leader {
+        position: seed,
+        distance: d,
+    };
+    let mut k = 0;
+    while 8 <= count - k {
+        leader = leader_by_eight(oklab, o, k, leader);
+        k += 8;
+    }
+    let last = leader_by_one(oklab, o, k, count, leader);
+    last.position
+}
+
+// The position of the smallest distance, the first of equals. The search begins at the seed, which changes nothing but the
+// time. No public call: the caller sees to the list, the range and the seed.
+pub fn nearest_position(oklab: &[f32], count: usize, o: Oklab, seed: usize) -> usize
+    requires { ⌜ RangedList (now oklab) count × T (allInRange o) × (seed < count) ⌝ }
+    ensures { λ r. ⌜ r ≡ nearestIn (oklabAt (now (oklab .entry))) count o ⌝ }
+{
+    if count < 32 {
+        return nearest_by_one(oklab, count, o);
+    }
+    nearest_by_eight(oklab, count, o, seed)
 }

@@ -1,7 +1,8 @@
 -- `flat_nearest` meets its contract: the refusal, or the nearest. Assumes nothing.
 use mathlib.Core.Path.{sym, _∙_}
+use native.Mathlib.Omega.{arith}
 use Rattle.lookup.proofs.ListLaws.{accepted}
-use Rattle.lookup.proofs.AnswerLaws.{nearest-refused, nearest-accepted}
+use Rattle.lookup.proofs.AnswerLaws.{in-range, nearest-refused, nearest-accepted}
 use borrow.Author.Needs.{needs}
 use Rattle.lookup.proofs.flat_nearest.Statement.{statement}
 use Rattle.lookup.proofs.flat_nearest.Tie as tie
@@ -23,7 +24,7 @@ nearest-position-requires c κs =
     let a = c .before .before .before .before .before .before .args in
     let n = c .before .before .list-refusal in
     let A = accepted (a .reduced .now) (a .normalized .now) (a .oklab .now) (sym (n .ensures) ∙ c .before .if1 .left) in
-    (A .positive, A .ranged .long)
+    (A .ranged, in-range (a .color) (c .to-oklab .result) (c .to-oklab .ensures) (omega arith) (omega arith) (omega arith), A .positive)
 
 returns-2 : tie.Need-returns-2
 returns-2 c =

@@ -1,6 +1,7 @@
 -- `flat_nearest_two` meets its contract: the refusal, or the nearest two. Assumes nothing.
 use mathlib.Core.Path.{sym, _∙_}
-use Rattle.lookup.proofs.AnswerLaws.{two-refused, two-accepted}
+use native.Mathlib.Omega.{arith}
+use Rattle.lookup.proofs.AnswerLaws.{in-range, two-refused, two-accepted}
 use borrow.Author.Needs.{needs}
 use Rattle.lookup.proofs.flat_nearest_two.Statement.{statement}
 use Rattle.lookup.proofs.flat_nearest_two.Tie as tie
@@ -18,7 +19,10 @@ to-oklab-requires : tie.Need-to-oklab-requires
 to-oklab-requires c κs = search needs
 
 two-of-requires : tie.Need-two-of-requires
-two-of-requires c κs = sym (c .before .before .list-refusal .ensures) ∙ c .before .if1 .left
+two-of-requires c κs = (
+  sym (c .before .before .list-refusal .ensures) ∙ c .before .if1 .left,
+  in-range (c .before .before .before .before .before .before .args .color) (c .to-oklab .result) (c .to-oklab .ensures) (omega arith) (omega arith) (omega arith),
+)
 
 returns-2 : tie.Need-returns-2
 returns-2 c =

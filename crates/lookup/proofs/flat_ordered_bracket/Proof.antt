@@ -1,6 +1,7 @@
 -- `flat_ordered_bracket` meets its contract: the refusal, or the bracket. Assumes nothing.
 use mathlib.Core.Path.{sym, _∙_}
-use Rattle.lookup.proofs.AnswerLaws.{bracket-refused, bracket-accepted}
+use native.Mathlib.Omega.{arith}
+use Rattle.lookup.proofs.AnswerLaws.{in-range, bracket-refused, bracket-accepted}
 use borrow.Author.Needs.{needs}
 use Rattle.lookup.proofs.flat_ordered_bracket.Statement.{statement}
 use Rattle.lookup.proofs.flat_ordered_bracket.Tie as tie
@@ -18,7 +19,10 @@ to-oklab-requires : tie.Need-to-oklab-requires
 to-oklab-requires c κs = search needs
 
 bracket-of-requires : tie.Need-bracket-of-requires
-bracket-of-requires c κs = sym (c .before .before .list-refusal .ensures) ∙ c .before .if1 .left
+bracket-of-requires c κs = (
+  sym (c .before .before .list-refusal .ensures) ∙ c .before .if1 .left,
+  in-range (c .before .before .before .before .before .before .args .color) (c .to-oklab .result) (c .to-oklab .ensures) (omega arith) (omega arith) (omega arith),
+)
 
 returns-2 : tie.Need-returns-2
 returns-2 c =

@@ -21,15 +21,20 @@ row-requires : tie.Need-row-requires
 row-requires c κs = search needs
 
 diffuse-residual-requires : tie.Need-diffuse-residual-requires
-diffuse-residual-requires c κs = (holds (c .before .before .before .before .before .before .before .before .before .before .before .pre .3), search needs, search needs)
+diffuse-residual-requires c κs =
+    let p = c .before .before .before .before .before .before .before .before .before .before .before .before .pre in
+    (holds (p .3), record { column = c .before .before .column .ensures .1; row = c .before .row .ensures .1; wide = p .2 .wide; high = p .2 .high }, p .4)
 
 same-length : tie.Need-same-length
 same-length c = search needs
 
 returns : tie.Need-returns
-returns c = λ zs Z.
-    diffused-is _ _ _ zs _ _ _ _ _ _ _ _ (c .before .before .before .before .before .before .before .before .biased-color .ensures zs Z) (c .before .before .before .before .before .before .before .nearest-color .ensures) (c .before .before .before .before .before .before .normalize-color .ensures) (c .before .before .before .before .before .column .ensures .0) (c .before .before .before .before .row .ensures .0)
-    (c .before .before .diffuse-residual .ensures zs Z)
+returns c = (
+  λ zs Z.
+      diffused-is _ _ _ zs _ _ _ _ _ _ _ _ (c .before .before .before .before .before .before .before .before .before .biased-color .ensures zs Z) (c .before .before .before .before .before .before .before .nearest-color .ensures .0) (c .before .before .before .before .before .before .normalize-color .ensures) (c .before .before .before .before .before .column .ensures .0) (c .before .before .before .before .row .ensures .0)
+      (c .before .before .diffuse-residual .ensures zs Z),
+  c .before .before .before .before .before .before .before .nearest-color .ensures .1,
+)
 
 pub diffusion-color-at-spec : {M : Type 1} → statement M
 diffusion-color-at-spec =

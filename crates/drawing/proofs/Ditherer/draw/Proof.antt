@@ -2,6 +2,7 @@
 use mathlib.Core.Path.{sym, _∙_}
 use Rattle.drawing.specs.Lent.{lent, drawingOf}
 use Rattle.drawing.proofs.TurnLaws.{turn-end, turn-none}
+use Rattle.remembered.proofs.TableLaws.{kept-none}
 use borrow.Author.Needs.{needs}
 use Rattle.drawing.proofs.Ditherer.draw.Statement.{statement}
 use Rattle.drawing.proofs.Ditherer.draw.Tie as tie
@@ -14,14 +15,14 @@ is-diffusion-requires c κs = search needs
 
 draw-diffused-requires : tie.Need-draw-diffused-requires
 draw-diffused-requires c κs =
-    let p = c .before .before .before .before .before .before .before .before .before .before .before .before .before .pre in
-    let d = sym (c .before .before .before .before .is-diffusion .ensures) ∙ c .before .before .before .if1 .taken in
-    (record { is = c .before .before .before .before .before .linear-table .ensures }, p .0, d, p .1, p .2 d)
+    let p = c .before .before .before .before .before .before .before .before .before .before .before .before .before .before .pre in
+    let d = sym (c .before .before .before .before .before .is-diffusion .ensures) ∙ c .before .before .before .before .if1 .taken in
+    (record { is = c .before .before .before .before .before .before .linear-table .ensures }, p .0, d, p .1, p .2 d, kept-none _)
 
 draw-each-requires : tie.Need-draw-each-requires
 draw-each-requires c κs =
-    let p = c .before .before .before .before .before .before .before .before .before .before .before .before .pre in
-    (record { is = c .before .before .before .before .linear-table .ensures }, p .0, sym (c .before .before .before .is-diffusion .ensures) ∙ c .before .before .if1 .left, p .1)
+    let p = c .before .before .before .before .before .before .before .before .before .before .before .before .before .pre in
+    (record { is = c .before .before .before .before .before .linear-table .ensures }, p .0, sym (c .before .before .before .before .is-diffusion .ensures) ∙ c .before .before .before .if1 .left, p .1, kept-none _)
 
 same-length : tie.Need-same-length
 same-length c = search needs
@@ -31,15 +32,15 @@ same-length-2 c = search needs
 
 returns : tie.Need-returns
 returns c =
-    let a = c .before .before .before .before .before .before .before .before .before .before .before .before .before .before .before .before .before .before .args in
+    let a = c .before .before .before .before .before .before .before .before .before .before .before .before .before .before .before .before .before .before .before .args in
     let e = c .before .before .before .before .draw-diffused .ensures in
-    (e .0, turn-end (drawingOf (a .self) (a .zero) (lent (a .reduction .now) (a .scale .now) (a .pixels .now) (a .colors .now) (a .oklab .now) (a .count))) (sym (c .before .before .before .before .before .before .before .before .before .is-diffusion .ensures) ∙ c .before .before .before .before .before .before .before .before .if1 .taken) _ _ (e .1))
+    (e .0, turn-end (drawingOf (a .self) (a .zero) (lent (a .reduction .now) (a .scale .now) (a .pixels .now) (a .colors .now) (a .oklab .now) (a .count))) (sym (c .before .before .before .before .before .before .before .before .before .before .is-diffusion .ensures) ∙ c .before .before .before .before .before .before .before .before .before .if1 .taken) _ _ (e .1))
 
 same-length-3 : tie.Need-same-length-3
 same-length-3 c = search needs
 
 returns-2 : tie.Need-returns-2
-returns-2 c = (c .before .before .draw-each .ensures, turn-none _ (sym (c .before .before .before .before .before .before .is-diffusion .ensures) ∙ c .before .before .before .before .before .if1 .left) _)
+returns-2 c = (c .before .before .draw-each .ensures, turn-none _ (sym (c .before .before .before .before .before .before .before .is-diffusion .ensures) ∙ c .before .before .before .before .before .before .if1 .left) _)
 
 pub draw-spec : {M : Type 1} → statement M
 draw-spec =

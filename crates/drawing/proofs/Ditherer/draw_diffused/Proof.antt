@@ -5,6 +5,8 @@ use mathlib.Core.Path.{_≡_, sym, ap, _∙_}
 use native.Mathlib.Omega.{arith}
 use borrow.Author.Needs.{needs}
 use Rattle.lists.proofs.FillLaws.{Filling, fill-begin}
+use Rattle.color.specs.Oklab.{oklabAt}
+use Rattle.remembered.specs.Table.{nearestAlone, Kept}
 use Rattle.drawing.specs.Lent.{lent, drawingOf, pixelBytes}
 use Rattle.drawing.specs.Turns.{cellsBefore}
 use Rattle.drawing.proofs.OutputLaws.{out-more, out-all}
@@ -13,12 +15,13 @@ use Rattle.drawing.proofs.Ditherer.draw_diffused.Statement.{statement}
 use Rattle.drawing.proofs.Ditherer.draw_diffused.Tie as tie
 
 abbrev Inv-loop : tie.InvT-loop
-Inv-loop self zero linear reduction scale pixels colors oklab count out₀ cells₀ size i₀ out cells i =
+Inv-loop self zero linear reduction scale pixels colors oklab count memory₀ out₀ cells₀ size i₀ memory out cells i =
     Filling 4 (pixelBytes (drawingOf self zero (lent reduction scale pixels colors oklab count))) out₀ out i
     × (cells ≡ cellsBefore (drawingOf self zero (lent reduction scale pixels colors oklab count)) i)
+    × Kept (nearestAlone (oklabAt oklab) count) memory
 
 abbrev μ-loop : tie.MeasureT-loop
-μ-loop self zero linear reduction scale pixels colors oklab count out₀ cells₀ size i₀ out cells i = size - i
+μ-loop self zero linear reduction scale pixels colors oklab count memory₀ out₀ cells₀ size i₀ memory out cells i = size - i
 
 zero-floats-requires : tie.Need-zero-floats-requires Inv-loop μ-loop
 zero-floats-requires c κs = search needs
@@ -33,23 +36,24 @@ mul-size : tie.Need-mul-size Inv-loop μ-loop
 mul-size c = search needs
 
 loop-holds : tie.Need-loop-holds Inv-loop μ-loop
-loop-holds c = (fill-begin 4 _ _, turn-begin _ _ _ (c .before .before .before .before .before .before .before .before .before .before .before .before .before .pre .4) (c .before .before .before .before .zero-floats .ensures))
+loop-holds c = (fill-begin 4 _ _, turn-begin _ _ _ (c .before .before .before .before .before .before .before .before .before .before .before .before .before .pre .4) (c .before .before .before .before .zero-floats .ensures), c .before .before .before .before .before .before .before .before .before .before .before .before .before .pre .5)
 
 diffused-pixel-requires : tie.Need-diffused-pixel-requires Inv-loop μ-loop
-diffused-pixel-requires c κs = let p = c .before .before .before .before .before .before .before .before .before .before .before .before .before .before .before .before .pre in (p .0, p .1, p .2, c .before .loop-test .taken, c .before .before .loop .inv .1)
+diffused-pixel-requires c κs = let p = c .before .before .before .before .before .before .before .before .before .before .before .before .before .before .before .before .before .pre in (p .0, p .1, p .2, c .before .before .loop-test .taken, c .before .before .before .loop .inv .1, c .before .before .before .loop .inv .2)
 
 put-rgba-requires : tie.Need-put-rgba-requires Inv-loop μ-loop
-put-rgba-requires c κs = omega (arith, c .before .before .before .before .before .before .loop .inv .0 .long, c .before .before .before .before .before .before .before .before .before .before .before .before .before .before .before .before .before .before .before .before .pre .3, c .before .before .before .before .before .loop-test .taken)
+put-rgba-requires c κs = omega (arith, c .before .before .before .before .before .before .before .loop .inv .0 .long, c .before .before .before .before .before .before .before .before .before .before .before .before .before .before .before .before .before .before .before .before .before .pre .3, c .before .before .before .before .before .before .loop-test .taken)
 
 add-i : tie.Need-add-i Inv-loop μ-loop
-add-i c = omega (arith, c .before .before .before .before .before .before .before .before .before .before .before .before .before .before .before .before .before .before .before .before .before .before .before .pre .1 .few, c .before .before .before .before .before .before .before .before .loop-test .taken)
+add-i c = omega (arith, c .before .before .before .before .before .before .before .before .before .before .before .before .before .before .before .before .before .before .before .before .before .before .before .before .pre .1 .few, c .before .before .before .before .before .before .before .before .before .loop-test .taken)
 
 loop-less : tie.Need-loop-less Inv-loop μ-loop
-loop-less c = omega (arith, c .before .before .before .before .before .before .before .before .loop-test .taken)
+loop-less c = omega (arith, c .before .before .before .before .before .before .before .before .before .loop-test .taken)
 
 loop-again : tie.Need-loop-again Inv-loop μ-loop
 loop-again c =
-    (out-more _ _ _ _ (c .before .before .before .before .before .before .before .before .before .before .before .before .before .before .before .before .before .before .before .before .before .before .before .pre .3) (c .before .before .before .before .before .before .before .before .before .loop .inv .0) _ _ (c .before .before .before .before .before .before .before .before .loop-test .taken) (c .before .before .before .before .before .before .diffused-pixel .ensures .0) (c .before .before .put-rgba .ensures), c .before .before .before .before .before .before .diffused-pixel .ensures .1)
+    let chosen = c .before .before .before .before .before .before .diffused-pixel .ensures in
+    (out-more _ _ _ _ (c .before .before .before .before .before .before .before .before .before .before .before .before .before .before .before .before .before .before .before .before .before .before .before .before .pre .3) (c .before .before .before .before .before .before .before .before .before .before .loop .inv .0) _ _ (c .before .before .before .before .before .before .before .before .before .loop-test .taken) (chosen .0) (c .before .before .put-rgba .ensures), chosen .1, chosen .2)
 
 same-length : tie.Need-same-length Inv-loop μ-loop
 same-length c = c .before .loop .inv .0 .long

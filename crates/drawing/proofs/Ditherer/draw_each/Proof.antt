@@ -1,20 +1,24 @@
--- `drawing::Ditherer::draw_each` meets its contract. The invariant: the first i pixels are in place, and the other bytes as they came. Assumes
+-- `drawing::Ditherer::draw_each` meets its contract. The invariant: the first i pixels are in place, the other bytes as they came, and what is remembered is right. Assumes
 -- nothing.
 use Prim.Native.Nat.{_-_}
 use native.Mathlib.Omega.{arith}
 use borrow.Author.Needs.{needs}
 use Rattle.lists.proofs.FillLaws.{Filling, fill-begin}
+use Rattle.shortlist.specs.Candidates.{scaled}
+use Rattle.remembered.specs.Table.{Kept}
+use Rattle.drawing.specs.Turns.{answersOf}
 use Rattle.drawing.specs.Lent.{lent, drawingOf, pixelBytes}
 use Rattle.drawing.proofs.OutputLaws.{out-more, out-all}
 use Rattle.drawing.proofs.Ditherer.draw_each.Statement.{statement}
 use Rattle.drawing.proofs.Ditherer.draw_each.Tie as tie
 
 abbrev Inv-loop : tie.InvT-loop
-Inv-loop self zero linear reduction scale pixels colors oklab count out₀ size i₀ out i =
+Inv-loop self zero linear reduction scale pixels colors oklab count memory₀ out₀ size i₀ memory out i =
     Filling 4 (pixelBytes (drawingOf self zero (lent reduction scale pixels colors oklab count))) out₀ out i
+    × Kept (answersOf self (scaled colors scale oklab count)) memory
 
 abbrev μ-loop : tie.MeasureT-loop
-μ-loop self zero linear reduction scale pixels colors oklab count out₀ size i₀ out i = size - i
+μ-loop self zero linear reduction scale pixels colors oklab count memory₀ out₀ size i₀ memory out i = size - i
 
 cast-size : tie.Need-cast-size Inv-loop μ-loop
 cast-size c = search needs
@@ -26,29 +30,30 @@ mul-size : tie.Need-mul-size Inv-loop μ-loop
 mul-size c = search needs
 
 loop-holds : tie.Need-loop-holds Inv-loop μ-loop
-loop-holds c = fill-begin 4 _ _
+loop-holds c = (fill-begin 4 _ _, c .before .before .before .before .before .before .before .before .pre .4)
 
 pixel-color-requires : tie.Need-pixel-color-requires Inv-loop μ-loop
-pixel-color-requires c κs = let p = c .before .before .before .before .before .before .before .before .before .before .pre in (p .0, p .1, p .2, c .loop-test .taken)
+pixel-color-requires c κs = let p = c .before .before .before .before .before .before .before .before .before .before .before .pre in (p .0, p .1, p .2, c .before .loop-test .taken, c .before .before .loop .inv .1)
 
 put-rgba-requires : tie.Need-put-rgba-requires Inv-loop μ-loop
-put-rgba-requires c κs = omega (arith, c .before .before .before .loop .inv .long, c .before .before .before .before .before .before .before .before .before .before .before .before .pre .3)
+put-rgba-requires c κs = omega (arith, c .before .before .before .before .loop .inv .0 .long, c .before .before .before .before .before .before .before .before .before .before .before .before .before .pre .3, c .before .before .before .loop-test .taken)
 
 add-i : tie.Need-add-i Inv-loop μ-loop
-add-i c = omega (arith, c .before .before .before .before .before .before .before .before .before .before .before .before .before .before .before .pre .1 .few)
+add-i c = omega (arith, c .before .before .before .before .before .before .before .before .before .before .before .before .before .before .before .before .pre .1 .few, c .before .before .before .before .before .before .loop-test .taken)
 
 loop-less : tie.Need-loop-less Inv-loop μ-loop
-loop-less c = omega arith
+loop-less c = omega (arith, c .before .before .before .before .before .before .loop-test .taken)
 
 loop-again : tie.Need-loop-again Inv-loop μ-loop
 loop-again c =
-    out-more _ _ _ _ (c .before .before .before .before .before .before .before .before .before .before .before .before .before .before .before .pre .3) (c .before .before .before .before .before .before .loop .inv) _ _ (c .before .before .before .before .before .loop-test .taken) (c .before .before .before .before .pixel-color .ensures) (c .before .before .put-rgba .ensures)
+    let chosen = c .before .before .before .before .pixel-color .ensures in
+    (out-more _ _ _ _ (c .before .before .before .before .before .before .before .before .before .before .before .before .before .before .before .before .pre .3) (c .before .before .before .before .before .before .before .loop .inv .0) _ _ (c .before .before .before .before .before .before .loop-test .taken) (chosen .0) (c .before .before .put-rgba .ensures), chosen .1)
 
 same-length : tie.Need-same-length Inv-loop μ-loop
-same-length c = c .before .loop .inv .long
+same-length c = c .before .loop .inv .0 .long
 
 returns : tie.Need-returns Inv-loop μ-loop
-returns c = out-all _ _ _ _ (c .before .before .before .before .before .before .before .before .before .before .pre .3) (c .before .loop .inv) (c .loop-test .left)
+returns c = out-all _ _ _ _ (c .before .before .before .before .before .before .before .before .before .before .pre .3) (c .before .loop .inv .0) (c .loop-test .left)
 
 pub draw-each-spec : {M : Type 1} → statement M
 draw-each-spec =

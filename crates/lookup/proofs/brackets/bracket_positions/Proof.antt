@@ -33,8 +33,9 @@ bracket-with-requires c κs =
     let t = c .before .before .before .nearest-two-positions in
     let cs = scaled (a .colors .now) (a .scale .now) (a .oklab .now) (a .count) in
     let b = c .before .second .given .0 .0 in
-    let A : t .result .first < a .count = first-entry cs (a .width) (a .o) (a .color) (t .result) (t .ensures) (s .pre .0) in
-    let B : b < a .count = second-entry cs (a .width) (a .o) (a .color) (t .result) (t .ensures) (s .pre .0) (s .pre .3 .range) b (c .before .second .given .1) in
+    let some : 0 < a .count = omega (arith, s .pre .0) in
+    let A : t .result .first < a .count = first-entry cs (a .width) (a .o) (a .color) (t .result) (t .ensures) some in
+    let B : b < a .count = second-entry cs (a .width) (a .o) (a .color) (t .result) (t .ensures) some (s .pre .3 .range) b (c .before .second .given .1) in
     (omega (arith, s .pre .1), omega (arith, s .pre .1), s .pre .2, omega (arith, s .pre .3 .long), omega (arith, s .pre .3 .long))
 
 returns-2 : tie.Need-returns-2

@@ -19,14 +19,14 @@ slice-aggregate-bracket-positions c = search needs
 bracket-positions-requires : tie.Need-bracket-positions-requires
 bracket-positions-requires c κs =
     let s = c .before .before .before .before .before in
-    let A = accepted (s .args .reduced .now) (s .args .normalized .now) (s .args .oklab .now) (s .pre) in
-    (A .positive, omega (arith, A .bytes, A .same), ap length (c .before .identity-table .ensures) ∙ length-identity, A .ranged)
+    let A = accepted (s .args .reduced .now) (s .args .normalized .now) (s .args .oklab .now) (s .pre .0) in
+    (A .positive, omega (arith, A .bytes, A .same), ap length (c .before .identity-table .ensures) ∙ length-identity, A .ranged, s .pre .1)
 
 bracket-at-requires : tie.Need-bracket-at-requires
 bracket-at-requires c κs =
     let s = c .before .before .before .before .before .before in
     let a = s .args in
-    let A = accepted (a .reduced .now) (a .normalized .now) (a .oklab .now) (s .pre) in
+    let A = accepted (a .reduced .now) (a .normalized .now) (a .oklab .now) (s .pre .0) in
     let p = c .bracket-positions in
     let i = bracket-entries (scaled (a .normalized .now) (c .before .before .identity-table .result) (a .oklab .now) (length (a .reduced .now) / 4)) (a .width) (a .o) (a .color) (p .result) (p .ensures) (A .positive) (A .ranged .range) in
     (omega (arith, i .0, A .bytes), omega (arith, i .1, A .bytes))

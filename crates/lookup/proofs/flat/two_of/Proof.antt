@@ -17,8 +17,8 @@ slice-aggregate-nearest-two-positions c = search needs
 nearest-two-positions-requires : tie.Need-nearest-two-positions-requires
 nearest-two-positions-requires c κs =
     let s = c .before .before .before .before .before in
-    let A = accepted (s .args .reduced .now) (s .args .normalized .now) (s .args .oklab .now) (s .pre) in
-    (A .positive, omega (arith, A .bytes, A .same), ap length (c .before .identity-table .ensures) ∙ length-identity, A .ranged)
+    let A = accepted (s .args .reduced .now) (s .args .normalized .now) (s .args .oklab .now) (s .pre .0) in
+    (A .positive, omega (arith, A .bytes, A .same), ap length (c .before .identity-table .ensures) ∙ length-identity, A .ranged, s .pre .1)
 
 returns : tie.Need-returns
 returns c =

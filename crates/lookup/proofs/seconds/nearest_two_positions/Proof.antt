@@ -16,7 +16,7 @@ use Rattle.lookup.proofs.seconds.nearest_two_positions.Statement.{state
 use Rattle.lookup.proofs.seconds.nearest_two_positions.Tie as tie
 
 inside : (s : tie.Start) (a : ℕ) → a ≡ nearestIn (oklabAt (s .args .oklab .now)) (s .args .count) (s .args .o) → a < s .args .count
-inside s a e = subst (λ (u : ℕ). u < s .args .count) (sym e) (nearest-inside (oklabAt (s .args .oklab .now)) (s .args .count) (s .args .o) (s .pre .0))
+inside s a e = subst (λ (u : ℕ). u < s .args .count) (sym e) (nearest-inside (oklabAt (s .args .oklab .now)) (s .args .count) (s .args .o) (omega (arith, s .pre .0)))
 
 nearest-position-requires : tie.Need-nearest-position-requires
 nearest-position-requires c κs = search needs

@@ -1,6 +1,5 @@
-// One function a call: takes a case's tokens, calls, and compares the answer and every lent buffer afterwards. A case
-// whose tokens have not the widths that its call wants differs.
-use crate::pictures;
+// The recorded cases of the calls on single values and of the lookups, replayed. One function a call: it takes a case's
+// tokens, calls, and compares the answer. A case whose tokens have not the widths that its call wants differs.
 use color::Distance;
 use color::NormalizedColor;
 use color::Oklab;
@@ -26,6 +25,7 @@ use recorded::is_position;
 use recorded::is_refusal;
 use recorded::number;
 use recorded::part;
+use recorded::reduced;
 use recorded::shaped;
 use recorded::word;
 
@@ -45,10 +45,6 @@ fn oklab_at(p: &[u8], i: u8) -> Oklab {
     }
 }
 
-fn reduced_of(p: &[u8]) -> ReducedColor {
-    ReducedColor::new(byte_at(p, 0), byte_at(p, 1), byte_at(p, 2), byte_at(p, 3))
-}
-
 // Whether token k is this colour.
 fn is_color(room: &[u8], k: usize, c: ReducedColor) -> bool {
     let bytes = [c.0.r, c.0.g, c.0.b, c.0.a];
@@ -56,6 +52,15 @@ fn is_color(room: &[u8], k: usize, c: ReducedColor) -> bool {
 }
 
 // ---- the calls on single values
+
+// e: two reduced colours | equal
+fn eq_rgb(room: &[u8]) -> bool {
+    if !shaped(room, &[4, 4, 1]) {
+        return false;
+    }
+    let equal = color::eq_rgb(reduced(room, 0), reduced(room, 1));
+    is_byte(room, 2, equal as u8)
+}
 
 // o: color | lightness a b
 fn to_oklab(room: &[u8]) -> bool {
@@ -123,8 +128,8 @@ fn pick(room: &[u8]) -> bool {
         return false;
     }
     let bracket = Bracket {
-        dark: reduced_of(part(room, 0)),
-        light: reduced_of(part(room, 1)),
+        dark: reduced(room, 0),
+        light: reduced(room, 1),
         ratio: float_at(part(room, 2), 0),
     };
     match lookup::pick(bracket, word(room, 3), word(room, 4), word(room, 5)) {
@@ -217,14 +222,10 @@ fn look_up(letter: u8, room: &[u8]) -> bool {
     false
 }
 
-// Whether a call is lent the two tables.
-pub fn has_tables(letter: u8) -> bool {
-    (letter == b'c') | ((letter == b'q') | (letter == b'x'))
-}
-
 // Whether our answer to a case is the recorded one.
 pub fn same(letter: u8, room: &[u8]) -> bool {
     match letter {
+        b'e' => eq_rgb(room),
         b'o' => to_oklab(room),
         b'd' => oklab_sqdist(room),
         b't' => ordered_threshold(room),
@@ -232,7 +233,6 @@ pub fn same(letter: u8, room: &[u8]) -> bool {
         b'l' => lerp(room),
         b'p' => pick(room),
         b'n' | b'm' | b'b' => look_up(letter, room),
-        b'q' => pictures::quantize_pixels(room),
         _ => false,
     }
 }

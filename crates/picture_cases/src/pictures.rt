@@ -1,26 +1,18 @@
-// The calls on pictures: each case lends the recorded buffers, cut to their length, and compares them all afterwards.
+// `quantize_pixels`: a case lends the recorded indices, pixels and cells, cut to their length, and compares them afterwards.
 use quantize::Reply;
 use recorded::ANY;
 use recorded::are_floats;
-use recorded::copy;
+use recorded::bytes_into;
 use recorded::floats;
 use recorded::is_byte;
 use recorded::part;
 use recorded::shaped;
+use recorded::up_to;
 use recorded::word;
-
-// How many bytes and cells the recorded pictures have at most.
-const INDICES: usize = 256;
-
-const BYTES: usize = 1024;
-
-const CELLS: usize = 768;
 
 // The recorded contents, before the call.
 fn lend(room: &[u8], indices: &mut [u8], out: &mut [u8], cells: &mut [f32]) -> bool {
-    copy(indices, part(room, 8));
-    copy(out, part(room, 9));
-    floats(room, 10, cells)
+    bytes_into(room, 8, indices) & (bytes_into(room, 9, out) & floats(room, 10, cells))
 }
 
 fn number_of(reply: Reply) -> u8 {
@@ -93,18 +85,11 @@ pub fn quantize_pixels(room: &[u8]) -> bool {
     ) {
         return false;
     }
-    let mut indices = [0u8; INDICES];
-    let mut out = [0u8; BYTES];
-    let mut cells = [0.0f32; CELLS];
-    let n = part(room, 8).len();
-    let m = part(room, 9).len();
-    let k = part(room, 10).len() / 4;
-    if n <= INDICES {
-        if m <= BYTES {
-            if k <= CELLS {
-                return quantized(room, &mut indices[0..n], &mut out[0..m], &mut cells[0..k]);
-            }
-        }
-    }
-    false
+    let mut indices = [0u8; 64];
+    let mut out = [0u8; 256];
+    let mut cells = [0.0f32; 192];
+    let n = up_to(part(room, 8).len(), 64);
+    let m = up_to(part(room, 9).len(), 256);
+    let k = up_to(part(room, 10).len() / 4, 192);
+    quantized(room, &mut indices[0..n], &mut out[0..m], &mut cells[0..k])
 }

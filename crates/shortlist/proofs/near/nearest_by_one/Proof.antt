@@ -1,4 +1,4 @@
--- `near::nearest_position` meets its contract. The loop holds the first of the least of the entries passed, and its distance. Assumes nothing.
+-- `near::nearest_by_one` meets its contract. The loop holds the first of the least of the entries passed, and its distance. Assumes nothing.
 use mathlib.Core.Path.{_≡_, sym, ap, _∙_}
 use mathlib.Core.Logic.{⊎-elim}
 use Prim.Native.Nat.{_-_, _≤_}
@@ -9,8 +9,8 @@ use Rattle.lists.proofs.LeastLaws.{least-one, least-taken, least-left}
 use Rattle.color.specs.Oklab.{oklabAt}
 use Rattle.shortlist.specs.Nearest.{distances}
 use borrow.Author.Needs.{needs}
-use Rattle.shortlist.proofs.near.nearest_position.Statement.{statement}
-use Rattle.shortlist.proofs.near.nearest_position.Tie as tie
+use Rattle.shortlist.proofs.near.nearest_by_one.Statement.{statement}
+use Rattle.shortlist.proofs.near.nearest_by_one.Tie as tie
 
 abbrev Inv-loop : tie.InvT-loop
 Inv-loop oklab count o best₀ d₀ i₀ best d i = (1 ≤ i) × (i ≤ count) × (best ≡ leastOf lt (distances o (oklabAt oklab)) i) × (d ≡ distances o (oklabAt oklab) best)
@@ -50,8 +50,8 @@ returns c =
     let l = c .before .loop in
     l .inv .2 ∙ ap (leastOf lt (distances (a .o) (oklabAt (a .oklab .now)))) (le-antisymm (l .inv .1) (c .loop-test .left))
 
-pub nearest-position-spec : {M : Type 1} → statement M
-nearest-position-spec =
+pub nearest-by-one-spec : {M : Type 1} → statement M
+nearest-by-one-spec =
     tie.close
     (tie.spec
     Inv-loop

@@ -1,0 +1,165 @@
+// `dither_to_mode`: a case lends the recorded rooms, pixels and cells, cut to their length, and compares them afterwards.
+use dither::Dithered;
+use dither::Settings;
+use drawing::ColorZero;
+use recorded::ANY;
+use recorded::are_floats;
+use recorded::bytes_into;
+use recorded::floats;
+use recorded::is_byte;
+use recorded::is_empty;
+use recorded::is_word;
+use recorded::number;
+use recorded::part;
+use recorded::reduced;
+use recorded::shaped;
+use recorded::up_to;
+use recorded::word;
+
+// Colour zero: a flag, and the colour that it stands for.
+fn zero_of(room: &[u8]) -> ColorZero {
+    if number(room, 11) == 0 {
+        return ColorZero::Absent;
+    }
+    ColorZero::Is(reduced(room, 12))
+}
+
+fn settings_of(room: &[u8]) -> Settings {
+    let zero = zero_of(room);
+    Settings {
+        kind: word(room, 3),
+        shift: word(room, 2),
+        width: word(room, 4),
+        height: word(room, 5),
+        origin_x: word(room, 6),
+        origin_y: word(room, 7),
+        tile_width: word(room, 8),
+        tile_height: word(room, 9),
+        limit: word(room, 10),
+        zero,
+    }
+}
+
+// The recorded contents, before the call.
+fn lend(
+    room: &[u8],
+    places: &mut [u8],
+    oklab: &mut [f32],
+    out: &mut [u8],
+    cells: &mut [f32],
+) -> bool {
+    (bytes_into(room, 14, places) & floats(room, 15, oklab))
+        & (bytes_into(room, 16, out) & floats(room, 17, cells))
+}
+
+fn call(
+    room: &[u8],
+    places: &mut [u8],
+    oklab: &mut [f32],
+    out: &mut [u8],
+    cells: &mut [f32],
+) -> Dithered {
+    let settings = settings_of(room);
+    let reduction = part(room, 0);
+    let scale = part(room, 1);
+    let pixels = part(room, 13);
+    dither::dither_to_mode(
+        settings,
+        reduction,
+        scale,
+        pixels,
+        places,
+        oklab,
+        out,
+        cells,
+    )
+}
+
+// Whether the number, the count and the tile are the recorded ones. Only 8 has a tile, and no other refusal a count.
+fn is_answer(room: &[u8], answer: Dithered) -> bool {
+    match answer {
+        Dithered::Count(count) => {
+            is_byte(room, 18, 0) & (is_word(room, 19, count) & is_empty(room, 20))
+        }
+        Dithered::Over { tile, count } => {
+            is_byte(room, 18, 8) & (is_word(room, 19, count) & is_word(room, 20, tile))
+        }
+        Dithered::Refused(n) => is_byte(room, 18, n) & (is_empty(room, 19) & is_empty(room, 20)),
+    }
+}
+
+// Whether the buffers are the recorded ones.
+fn are_left(room: &[u8], places: &[u8], oklab: &[f32], out: &[u8], cells: &[f32]) -> bool {
+    (check::same(part(room, 21), places) & are_floats(room, 22, oklab))
+        & (check::same(part(room, 23), out) & are_floats(room, 24, cells))
+}
+
+fn dithered(
+    room: &[u8],
+    places: &mut [u8],
+    oklab: &mut [f32],
+    out: &mut [u8],
+    cells: &mut [f32],
+) -> bool {
+    if !lend(room, places, oklab, out, cells) {
+        return false;
+    }
+    let answer = call(room, places, oklab, out, cells);
+    is_answer(room, answer) & are_left(room, places, oklab, out, cells)
+}
+
+fn is_shaped(room: &[u8]) -> bool {
+    shaped(
+        room,
+        &[
+            ANY,
+            ANY,
+            4,
+            4,
+            4,
+            4,
+            4,
+            4,
+            4,
+            4,
+            4,
+            1,
+            4,
+            ANY,
+            ANY,
+            ANY,
+            ANY,
+            ANY,
+            1,
+            ANY,
+            ANY,
+            ANY,
+            ANY,
+            ANY,
+            ANY,
+        ],
+    )
+}
+
+// x: reduction scale shift kind width height origin_x origin_y tile_width tile_height limit has_zero zero pixels places
+// oklab out cells | number count tile places oklab out cells
+pub fn dither_to_mode(room: &[u8]) -> bool {
+    if !is_shaped(room) {
+        return false;
+    }
+    let mut places = [0u8; 256];
+    let mut oklab = [0.0f32; 192];
+    let mut out = [0u8; 256];
+    let mut cells = [0.0f32; 192];
+    let n = up_to(part(room, 14).len(), 256);
+    let m = up_to(part(room, 15).len() / 4, 192);
+    let k = up_to(part(room, 16).len(), 256);
+    let l = up_to(part(room, 17).len() / 4, 192);
+    dithered(
+        room,
+        &mut places[0..n],
+        &mut oklab[0..m],
+        &mut out[0..k],
+        &mut cells[0..l],
+    )
+}

@@ -1,0 +1,60 @@
+// `candidate_colors_in`: a case lends the recorded rooms, cut to their length, and compares them afterwards.
+use candidates::CandidateCount;
+use recorded::ANY;
+use recorded::are_floats;
+use recorded::bytes_into;
+use recorded::floats;
+use recorded::is_byte;
+use recorded::is_empty;
+use recorded::is_word;
+use recorded::part;
+use recorded::shaped;
+use recorded::up_to;
+use recorded::word;
+
+fn call(room: &[u8], places: &mut [u8], oklab: &mut [f32]) -> CandidateCount {
+    let shift = word(room, 2);
+    let width = word(room, 3);
+    let height = word(room, 4);
+    let reduction = part(room, 0);
+    let scale = part(room, 1);
+    let pixels = part(room, 5);
+    candidates::candidate_colors_in(
+        shift,
+        width,
+        height,
+        reduction,
+        scale,
+        pixels,
+        places,
+        oklab,
+    )
+}
+
+// Whether the number and the count are the recorded ones. A refusal has no count.
+fn is_answer(room: &[u8], answer: CandidateCount) -> bool {
+    match answer {
+        CandidateCount::Count(count) => is_byte(room, 8, 0) & is_word(room, 9, count),
+        CandidateCount::Refused(n) => is_byte(room, 8, n) & is_empty(room, 9),
+    }
+}
+
+fn collected(room: &[u8], places: &mut [u8], oklab: &mut [f32]) -> bool {
+    if !(bytes_into(room, 6, places) & floats(room, 7, oklab)) {
+        return false;
+    }
+    let answer = call(room, places, oklab);
+    is_answer(room, answer) & (check::same(part(room, 10), places) & are_floats(room, 11, oklab))
+}
+
+// c: reduction scale shift width height pixels places oklab | number count places oklab
+pub fn candidate_colors_in(room: &[u8]) -> bool {
+    if !shaped(room, &[ANY, ANY, 4, 4, 4, ANY, ANY, ANY, 1, ANY, ANY, ANY]) {
+        return false;
+    }
+    let mut places = [0u8; 256];
+    let mut oklab = [0.0f32; 192];
+    let n = up_to(part(room, 6).len(), 256);
+    let m = up_to(part(room, 7).len() / 4, 192);
+    collected(room, &mut places[0..n], &mut oklab[0..m])
+}

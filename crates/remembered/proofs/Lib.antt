@@ -1,0 +1,2 @@
+-- The laws of `remembered`.
+pub mod TableLaws

@@ -1,0 +1,60 @@
+-- `remembered::keep` meets its contract: one word more, if the pair has a number. Assumes nothing.
+use mathlib.Core.Path.{sym, subst, _∙_}
+use Prim.Native.Nat.{ℕ, _+_, _*_}
+use lib.ListN.{set}
+use Rattle.mixing.specs.Lerp.{Bytes}
+use Rattle.remembered.specs.Table.{Kept}
+use Rattle.remembered.proofs.TableLaws.{kept-more}
+use borrow.Author.Needs.{needs}
+use Rattle.remembered.proofs.keep.Statement.{statement}
+use Rattle.remembered.proofs.keep.Tie as tie
+
+bytes : (c : tie.Start) → Bytes (c .args .c)
+bytes c = record { r = search needs; g = search needs; b = search needs }
+
+key-of-requires : tie.Need-key-of-requires
+key-of-requires c κs = search needs
+
+number-of-requires : tie.Need-number-of-requires
+number-of-requires c κs = search needs
+
+mul-memory : tie.Need-mul-memory
+mul-memory c = search needs
+
+add-memory : tie.Need-add-memory
+add-memory c = search needs
+
+place-of-requires : tie.Need-place-of-requires
+place-of-requires c κs = search needs
+
+mul-memory-2 : tie.Need-mul-memory-2
+mul-memory-2 c = search needs
+
+element-write-memory : tie.Need-element-write-memory
+element-write-memory c = search needs
+
+returns : tie.Need-returns
+returns c =
+    let k = c .before .before .before .key-of in
+    let x = c .before .before .number-of in
+    let start = c .before .before .before .before in
+    λ f by e kept.
+    subst (λ (key : ℕ). Kept f (set (start .args .memory .now) (c .place-of .result) (key * 68719476736 + x .result))) (sym (k .ensures .0))
+    (kept-more f _ kept by _ _ _ (bytes start) (c .place-of .ensures) (c .before .if1 .taken) (x .ensures (c .before .if1 .taken) ∙ e))
+
+returns-2 : tie.Need-returns-2
+returns-2 c = search needs
+
+pub keep-spec : {M : Type 1} → statement M
+keep-spec =
+    tie.close
+    (tie.spec
+    key-of-requires
+    number-of-requires
+    mul-memory
+    add-memory
+    place-of-requires
+    mul-memory-2
+    element-write-memory
+    returns
+    returns-2)

@@ -1,0 +1,14 @@
+-- `remembered::note_last` meets its contract. Assumes nothing.
+use Rattle.remembered.proofs.TableLaws.{kept-last}
+use borrow.Author.Needs.{needs}
+use Rattle.remembered.proofs.note_last.Statement.{statement}
+use Rattle.remembered.proofs.note_last.Tie as tie
+
+element-write-memory : tie.Need-element-write-memory
+element-write-memory c = search needs
+
+returns : tie.Need-returns
+returns c = λ f kept. kept-last f _ kept _
+
+pub note-last-spec : {M : Type 1} → statement M
+note-last-spec = tie.close (tie.spec element-write-memory returns)

@@ -1,0 +1,51 @@
+-- A table of answers remembered by colour: 256 words, and behind them the position that was found last. An answer is a pair, the nearest candidate
+-- and the second. Definitions only.
+-- Written from document 01, "What changes shape in Rattle": the `HashMap` of brackets may be worked out anew; what is remembered is what would be
+-- worked out.
+use Prim.Native.Nat.{ℕ, zero, suc, _+_, _*_, _/_, _%_, _<_}
+use mathlib.Core.Path.{_≡_}
+use mathlib.Core.List.{List}
+use lib.ListN.{length, getD}
+use Rattle.color.specs.declared.NormalizedColor.{NormalizedColor}
+use Rattle.color.specs.declared.Oklab.{Oklab}
+use Rattle.conversion.specs.Oklab.{toOklab}
+use Rattle.mixing.specs.Lerp.{Bytes, EqualRgb}
+use Rattle.shortlist.specs.Candidates.{Candidates}
+use Rattle.shortlist.specs.Nearest.{nearestIn}
+use Rattle.lookup.specs.declared.Two.{Two}
+use Rattle.lookup.specs.declared.Second.{Second}
+use Rattle.lookup.specs.declared.Second.the-variants.{At, Nothing}
+use Rattle.lookup.specs.Second.{nearestTwoOf}
+
+-- ---- what is remembered of a colour
+
+-- the nearest of n colours alone
+unfoldable pub nearestAlone : (ℕ → Oklab) → ℕ → NormalizedColor → Two
+nearestAlone oklab n c = record { first = nearestIn oklab n (toOklab c); second = Nothing }
+
+-- the nearest and the second
+unfoldable pub nearestBoth : Candidates → ℕ → NormalizedColor → Two
+nearestBoth cs width c = nearestTwoOf cs width (toOklab c) c
+
+-- ---- the table
+
+-- a colour's key: red, green and blue in one number, and one more, so that 0 is no colour's. Alpha plays no part in the answers.
+unfoldable pub keyOf : NormalizedColor → ℕ
+keyOf c = c .0 .r + 256 * c .0 .g + 65536 * c .0 .b + 1
+
+-- the pair with a number below 2^36: the first's position, and the second's and one more, 0 where there is none
+abbrev pub secondWith : ℕ → Second
+secondWith zero = Nothing
+secondWith (suc k) = At k
+
+unfoldable pub pairWith : ℕ → Two
+pairWith x = record { first = x / 262144; second = secondWith (x % 262144) }
+
+-- a word is a key times 2^36, and a pair's number: each of the first 256 that has a colour's key has what f answers for that colour
+pub record Kept (f : NormalizedColor → Two) (memory : List ℕ) : Type 0 where
+  pub room : length memory ≡ 257
+  pub right : (j : ℕ) → j < 256 → (c : NormalizedColor) → Bytes c → getD memory j 0 / 68719476736 ≡ keyOf c → pairWith (getD memory j 0 % 68719476736) ≡ f c
+
+-- f answers by red, green and blue alone
+pub record ByRgb (f : NormalizedColor → Two) : Type 0 where
+  pub same : (c c′ : NormalizedColor) → EqualRgb c c′ → f c ≡ f c′

@@ -1,0 +1,30 @@
+-- `near::leader_by_eight` meets its contract: all eight are farther, or each has its turn. Assumes nothing.
+use Rattle.color.specs.Oklab.{oklabAt}
+use Rattle.shortlist.specs.Nearest.{distances}
+use Rattle.shortlist.proofs.LeaderLaws.{lead-past}
+use borrow.Author.Needs.{needs}
+use Rattle.shortlist.proofs.near.leader_by_eight.Statement.{statement}
+use Rattle.shortlist.proofs.near.leader_by_eight.Tie as tie
+
+eight-farther-requires : tie.Need-eight-farther-requires
+eight-farther-requires c κs = search needs
+
+returns : tie.Need-returns
+returns c =
+    let a = c .before .before .before .args in
+    let e = c .before .eight-farther in
+    lead-past (distances (a .o) (oklabAt (a .oklab .now))) (a .leader) (a .k) 8 (e .result) (e .ensures) (c .if1 .taken)
+
+add-leader-by-one : tie.Need-add-leader-by-one
+add-leader-by-one c = search needs
+
+leader-by-one-requires : tie.Need-leader-by-one-requires
+leader-by-one-requires c κs = search needs
+
+returns-2 : tie.Need-returns-2
+returns-2 c = search needs
+
+pub leader-by-eight-spec : {M : Type 1} → statement M
+leader-by-eight-spec =
+    tie.close
+    (tie.spec eight-farther-requires returns add-leader-by-one leader-by-one-requires returns-2)
