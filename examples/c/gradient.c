@@ -1,0 +1,105 @@
+/*
+ * An example of the C interface: a small grey gradient, dithered to four greys by a few kinds and printed as characters, and
+ * then dithered to a mode, once within the limit of its tiles and once over it. C11; link with libexports.a.
+ */
+#include <stdint.h>
+#include <stdio.h>
+#include <string.h>
+
+#include "badge_dither.h"
+
+#define COUNT(array) (sizeof(array) / sizeof((array)[0]))
+
+enum { WIDTH = 48, HEIGHT = 16, PIXELS = WIDTH * HEIGHT, PLACES = 32, SHIFT = 3, OFF = 0 };
+
+static uint8_t reduction[256], scale[256];
+static uint8_t pixels[4 * PIXELS];
+
+/* The tables of five bits a channel: reducing drops three bits, scaling repeats the upper ones. */
+static void make_tables(void)
+{
+    for (unsigned v = 0; v < 256; v++) {
+        reduction[v] = (uint8_t)(v >> 3);
+        scale[v] = (uint8_t)(v << 3 | (v & 31) >> 2);
+    }
+}
+
+/* From black at the left to white at the right, with a transparent corner. */
+static void make_picture(void)
+{
+    for (unsigned i = 0; i < PIXELS; i++) {
+        unsigned x = i % WIDTH, y = i / WIDTH;
+        uint8_t grey = (uint8_t)(x * 255 / (WIDTH - 1));
+        uint8_t alpha = x + y < 6 ? 0 : 255;
+        memcpy(pixels + 4 * i, (uint8_t[]){grey, grey, grey, alpha}, 4);
+    }
+}
+
+/* Prints a picture, one character a pixel: '-' where it is transparent, else by palette index. */
+static void print_picture(const uint8_t *indices, const uint8_t *out)
+{
+    for (unsigned y = 0; y < HEIGHT; y++) {
+        char line[WIDTH + 1] = "";
+        for (unsigned x = 0; x < WIDTH; x++) {
+            unsigned i = y * WIDTH + x;
+            line[x] = out[4 * i + 3] == 0 ? '-' : " .o#"[indices[i] % 4];
+        }
+        printf("|%s|\n", line);
+    }
+}
+
+/* Dithers the picture to four greys by one kind and prints it. */
+static int show_kind(const char *name, uint32_t kind)
+{
+    static const uint8_t palette[] = {0, 0, 0, 255, 10, 10, 10, 255, 21, 21, 21, 255, 31, 31, 31, 255};
+    static uint8_t indices[PIXELS], out[4 * PIXELS];
+    static float cells[3 * PIXELS];
+    size_t cells_len = kind == 9 || kind == 10 ? COUNT(cells) : 0;
+
+    uint32_t number = badge_quantize_pixels(SHIFT, kind, WIDTH, HEIGHT, reduction, COUNT(reduction), scale, COUNT(scale),
+                                            palette, COUNT(palette), pixels, COUNT(pixels), indices, COUNT(indices),
+                                            out, COUNT(out), cells_len ? cells : NULL, cells_len);
+    if (number != 0) {
+        printf("%s: refused with %u\n", name, (unsigned)number);
+        return 1;
+    }
+    printf("%s\n", name);
+    print_picture(indices, out);
+    return 0;
+}
+
+/* Dithers the picture to its own candidates, with tiles of 8x8 that may have so many colours. */
+static uint32_t show_mode(uint32_t limit)
+{
+    static uint8_t places[4 * PLACES], out[4 * PIXELS];
+    static float oklab[3 * PLACES];
+    uint32_t count = 0, tile = 0;
+
+    uint32_t number = badge_dither_to_mode(SHIFT, OFF, WIDTH, HEIGHT, 0, 0, 8, 8, limit, 0, 0, 0, 0, 0, reduction,
+                                           COUNT(reduction), scale, COUNT(scale), pixels, COUNT(pixels), places,
+                                           COUNT(places), oklab, COUNT(oklab), out, COUNT(out), NULL, 0, &count, &tile);
+    if (number == 0)
+        printf("limit %u: %u candidates, every tile within its limit\n", (unsigned)limit, (unsigned)count);
+    else if (number == 8)
+        printf("limit %u: %u candidates, tile %u is over its limit\n", (unsigned)limit, (unsigned)count, (unsigned)tile);
+    else
+        printf("limit %u: refused with %u\n", (unsigned)limit, (unsigned)number);
+    return number;
+}
+
+int main(void)
+{
+    static const struct {
+        const char *name;
+        uint32_t kind;
+    } kinds[] = {{"off", OFF}, {"Bayer 4x4", 2}, {"checker", 4}, {"vertical lines", 7}, {"Atkinson", 9},
+                 {"Floyd-Steinberg", 10}};
+    make_tables();
+    make_picture();
+    int failed = 0;
+    for (size_t k = 0; k < COUNT(kinds); k++)
+        failed |= show_kind(kinds[k].name, kinds[k].kind);
+    failed |= show_mode(8) != 0;
+    failed |= show_mode(4) != 8;
+    return failed;
+}

@@ -1,0 +1,33 @@
+/*
+ * A test of the header alone: it is included first and twice, and every function is named with the type that the archive has,
+ * so that a declaration that does not fit is an error. Compiled both as C11 and as C++17.
+ */
+#include "badge_dither.h"
+#include "badge_dither.h"
+
+typedef const uint8_t *bytes;
+typedef const float *floats;
+
+int main(void)
+{
+    void (*to_oklab)(uint8_t, uint8_t, uint8_t, float *, float *, float *) = badge_to_oklab;
+    uint32_t (*sqdist)(float, float, float, float, float, float, float *) = badge_oklab_sqdist;
+    uint32_t (*threshold)(uint32_t, uint32_t, uint32_t, float *) = badge_ordered_threshold;
+    uint32_t (*width)(uint32_t, uint64_t, uint64_t *) = badge_bracket_width;
+    float (*lerp)(uint8_t, uint8_t, uint8_t, uint8_t, uint8_t, uint8_t, uint8_t, uint8_t, uint8_t, uint32_t) = badge_lerp;
+    uint32_t (*nearest)(bytes, size_t, bytes, size_t, floats, size_t, uint8_t, uint8_t, uint8_t, uint32_t *) = badge_nearest;
+    uint32_t (*nearest_two)(bytes, size_t, bytes, size_t, floats, size_t, uint8_t, uint8_t, uint8_t, uint64_t, uint32_t *,
+                            uint32_t *) = badge_nearest_two;
+    uint32_t (*bracket)(bytes, size_t, bytes, size_t, floats, size_t, uint8_t, uint8_t, uint8_t, uint64_t, uint8_t *, size_t,
+                        uint8_t *, size_t, float *) = badge_ordered_bracket;
+    uint32_t (*pick)(bytes, size_t, bytes, size_t, float, uint32_t, uint32_t, uint32_t, uint8_t *, size_t) = badge_pick;
+    uint32_t (*candidates)(uint32_t, uint32_t, uint32_t, bytes, size_t, bytes, size_t, bytes, size_t, uint8_t *, size_t,
+                           float *, size_t, uint32_t *) = badge_candidate_colors_in;
+    uint32_t (*quantize)(uint32_t, uint32_t, uint32_t, uint32_t, bytes, size_t, bytes, size_t, bytes, size_t, bytes, size_t,
+                         uint8_t *, size_t, uint8_t *, size_t, float *, size_t) = badge_quantize_pixels;
+    uint32_t (*to_mode)(uint32_t, uint32_t, uint32_t, uint32_t, uint32_t, uint32_t, uint32_t, uint32_t, uint32_t, uint32_t,
+                        uint8_t, uint8_t, uint8_t, uint8_t, bytes, size_t, bytes, size_t, bytes, size_t, uint8_t *, size_t,
+                        float *, size_t, uint8_t *, size_t, float *, size_t, uint32_t *, uint32_t *) = badge_dither_to_mode;
+    return !(to_oklab && sqdist && threshold && width && lerp && nearest && nearest_two && bracket && pick && candidates &&
+             quantize && to_mode);
+}

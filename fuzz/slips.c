@@ -1,0 +1,84 @@
+/*
+ * Shows that the fuzz can fail: linked with --wrap, each call below goes to the archive and then makes the slip whose number
+ * the variable SLIP has. With no such variable nothing is changed.
+ */
+#include <stdlib.h>
+
+#include "badge_dither.h"
+
+#define SIZES uint32_t shift, uint32_t kind, uint32_t width, uint32_t height
+#define TABLES const uint8_t *reduction, size_t reduction_len, const uint8_t *scale, size_t scale_len
+#define QUANTIZE                                                                                                             \
+    SIZES, TABLES, const uint8_t *palette, size_t palette_len, const uint8_t *pixels, size_t pixels_len, uint8_t *indices,   \
+        size_t indices_len, uint8_t *out, size_t out_len, float *cells, size_t cells_len
+#define TO_MODE                                                                                                              \
+    SIZES, uint32_t origin_x, uint32_t origin_y, uint32_t tile_width, uint32_t tile_height, uint32_t limit,                  \
+        uint32_t has_zero, uint8_t zero_r, uint8_t zero_g, uint8_t zero_b, uint8_t zero_a, TABLES, const uint8_t *pixels,    \
+        size_t pixels_len, uint8_t *places, size_t places_len, float *oklab, size_t oklab_len, uint8_t *out, size_t out_len, \
+        float *cells, size_t cells_len, uint32_t *count, uint32_t *tile
+
+uint32_t __real_badge_quantize_pixels(QUANTIZE);
+uint32_t __wrap_badge_quantize_pixels(QUANTIZE);
+uint32_t __real_badge_dither_to_mode(TO_MODE);
+uint32_t __wrap_badge_dither_to_mode(TO_MODE);
+
+static int slip(void)
+{
+    static int number = -1;
+    if (number < 0)
+        number = getenv("SLIP") != NULL ? atoi(getenv("SLIP")) : 0;
+    return number;
+}
+
+/* What is read is kept, since a checker may pass over a read whose value is not used. */
+static volatile uint8_t kept;
+
+static void read_byte(const uint8_t *at)
+{
+    kept = *at;
+}
+
+static void write_again(const uint8_t *at)
+{
+    volatile uint8_t *byte = (volatile uint8_t *)(uintptr_t)at;
+    *byte = *byte;
+}
+
+uint32_t __wrap_badge_quantize_pixels(QUANTIZE)
+{
+    uint32_t number = __real_badge_quantize_pixels(shift, kind, width, height, reduction, reduction_len, scale, scale_len,
+                                                   palette, palette_len, pixels, pixels_len, indices, indices_len, out,
+                                                   out_len, cells, cells_len);
+    switch (slip()) {
+    case 1: if (pixels_len) read_byte(pixels + pixels_len); break; /* reads after a buffer */
+    case 2: if (palette_len) read_byte(palette - 1); break;       /* reads before one */
+    case 3: if (out_len) write_again(out + out_len); break;       /* writes after one */
+    case 4: if (number == 0) write_again(reduction); break;       /* writes to an input */
+    case 5: if (number == 3 && out_len) out[0] ^= 1; break;       /* changes a buffer where it refuses */
+    case 6: if (number == 3) number = 4; break;                   /* another number */
+    case 7: if (number == 0 && cells_len) cells[0] = -0.0f; break;
+    case 8: if (number == 0 && indices_len) indices[indices_len - 1] ^= 1; break;
+    default: break;
+    }
+    return number;
+}
+
+uint32_t __wrap_badge_dither_to_mode(TO_MODE)
+{
+    uint32_t number = __real_badge_dither_to_mode(
+        shift, kind, width, height, origin_x, origin_y, tile_width, tile_height, limit, has_zero, zero_r, zero_g, zero_b,
+        zero_a, reduction, reduction_len, scale, scale_len, pixels, pixels_len, places, places_len, oklab, oklab_len, out,
+        out_len, cells, cells_len, count, tile);
+    switch (slip()) {
+    case 9: if (number == 7 && places_len) places[places_len - 1] = 1; break; /* does not clear all after 7 */
+    case 10: if (number == 8 && cells_len) cells[cells_len - 1] = 1.0f; break; /* nor after 8 */
+    case 11: if (number == 8 && places_len) places[places_len - 1] ^= 1; break;
+    case 12: if (number == 7) *count = 0; break;                  /* writes behind a pointer where it refuses */
+    case 13: if (number == 0) *tile ^= 1; break;
+    case 14: if (number == 8) *tile = 0xffffffffu; break;         /* invents a tile */
+    case 15: if (number == 8) number = 10; break;                 /* a number that there is not */
+    case 16: if (number == 0 && oklab_len) oklab[oklab_len - 1] += 1.0f; break;
+    default: break;
+    }
+    return number;
+}

@@ -1,0 +1,83 @@
+/*
+ * The scope document's table of refusals, as tests of their own: what each number is said for, except 7 and 8, which depend
+ * on the picture.
+ */
+#ifndef TABLE_H
+#define TABLE_H
+
+#include <stdbool.h>
+#include <stddef.h>
+#include <stdint.h>
+
+static inline bool kind_wrong(uint32_t kind)
+{
+    return kind > 10;
+}
+
+static inline bool is_diffusion(uint32_t kind)
+{
+    return kind == 9 || kind == 10;
+}
+
+static inline bool has_matrix(uint32_t kind)
+{
+    return kind >= 1 && kind <= 8;
+}
+
+static inline bool shift_wrong(uint32_t shift)
+{
+    return shift < 3 || shift > 5;
+}
+
+static inline bool size_wrong(uint32_t width, uint32_t height)
+{
+    return width > 4096 || height > 4096 || width * height > 1048576;
+}
+
+static inline bool origin_wrong(uint32_t origin, uint32_t side)
+{
+    return (uint64_t)origin + side > 4294967295u;
+}
+
+/* The lengths of a list do not belong to one number of entries. */
+static inline bool list_wrong(size_t reduced, size_t normalized, size_t oklab)
+{
+    return reduced % 4 != 0 || normalized != reduced || oklab != reduced / 4 * 3;
+}
+
+/* The candidate rooms. */
+static inline bool rooms_wrong(size_t places, size_t oklab)
+{
+    return places % 4 != 0 || places / 4 > 65536 || oklab != places / 4 * 3;
+}
+
+static inline bool cells_wrong(size_t cells, uint32_t kind, size_t pixels)
+{
+    return cells != (is_diffusion(kind) ? 3 * pixels : 0);
+}
+
+static inline bool entries_wrong(size_t entries, size_t most)
+{
+    return entries == 0 || entries > most;
+}
+
+static inline bool tile_wrong(uint32_t width, uint32_t height, uint32_t limit)
+{
+    return width < 1 || width > 4096 || height < 1 || height > 4096 || limit > 256;
+}
+
+/* Not from -2 to 2; a NaN is not. */
+static inline bool component_wrong(float value)
+{
+    return !(value >= -2.0f && value <= 2.0f);
+}
+
+static inline bool some_component_wrong(const float *values, size_t count)
+{
+    for (size_t i = 0; i < count; i++)
+        if (component_wrong(values[i]))
+            return true;
+    return false;
+}
+
+#endif
