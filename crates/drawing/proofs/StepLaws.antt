@@ -1,7 +1,8 @@
 -- What the code's choices are, from what the functions that it calls answer: the nearest, what is picked of a bracket, a diffused pixel, a plain one; and
 -- what is lent for a whole picture is what a pixel's choice needs. Stated over plain parameters. Assumes nothing.
 use mathlib.Core.Path.{_≡_, sym, ap, _∙_, subst}
-use mathlib.Core.Bool.{Bool, true, false, cond}
+use mathlib.Core.Bool.{Bool, true, false}
+use lib.ListN.{replicate}
 use mathlib.Core.List.{List, map}
 use Prim.Native.Nat.{ℕ, _+_, _*_, _/_, _%_, _≤_, _<_}
 use native.Mathlib.Nat.{div-add-mod'}
@@ -33,8 +34,11 @@ use Rattle.drawing.specs.declared.ColorZero.{ColorZero}
 use Rattle.drawing.specs.declared.Ditherer.{Ditherer}
 use Rattle.drawing.specs.Drawing.{nearestColor, orderedColor, colorAt, drawn}
 use Rattle.drawing.specs.Lent.{isSkipped, Lent, drawingOf, Ready}
-use Rattle.remembered.specs.Table.{nearestAlone, nearestBoth, Kept}
-use Rattle.drawing.specs.Turns.{Choosable, Inside, Diffused, answersOf}
+use Rattle.remembered.specs.Table.{nearestAlone, nearestBoth}
+use Rattle.remembered.specs.Shorts.{shortOf}
+use Rattle.remembered.proofs.TableLaws.{kept-none}
+use Rattle.remembered.proofs.ShortLaws.{shorts-none}
+use Rattle.drawing.specs.Turns.{Choosable, Inside, Diffused, RemembersBy, Remembers}
 use Rattle.drawing.proofs.DrawnLaws.{drawn-plain}
 
 pub nearest-is : (colors scale : List ℕ) (oklab : List Float) (n : ℕ) (k : ℕ) (r : Rgba8888) (c : NormalizedColor)
@@ -44,19 +48,19 @@ nearest-is colors scale oklab n k r c near read = let e : r ≡ rgbaAt colors (n
 
 -- what is remembered, by the kind
 module _ (t : Ditherer) (cs : Candidates) (memory : List ℕ) where
-  pub answers-both : isOrdered (t .kind) ≡ true → (Kept (answersOf t cs) memory → Kept (nearestBoth cs (t .«bracket_width»)) memory) × (Kept (nearestBoth cs (t .«bracket_width»)) memory → Kept (answersOf t cs) memory)
-  unfolding answersOf
-  answers-both e = (subst Of e, subst Of (sym e))
-    where
-      Of : Bool → Type 0
-      Of b = Kept (cond b (nearestBoth cs (t .«bracket_width»)) (nearestAlone (cs .oklab) (cs .count))) memory
+  pub remembers-as : (b : Bool) → isOrdered (t .kind) ≡ b → Remembers t cs memory → RemembersBy b cs (t .«bracket_width») memory
+  remembers-as b e = subst (λ (x : Bool). RemembersBy x cs (t .«bracket_width») memory) e
 
-  pub answers-alone : isOrdered (t .kind) ≡ false → (Kept (answersOf t cs) memory → Kept (nearestAlone (cs .oklab) (cs .count)) memory) × (Kept (nearestAlone (cs .oklab) (cs .count)) memory → Kept (answersOf t cs) memory)
-  unfolding answersOf
-  answers-alone e = (subst Of e, subst Of (sym e))
-    where
-      Of : Bool → Type 0
-      Of b = Kept (cond b (nearestBoth cs (t .«bracket_width»)) (nearestAlone (cs .oklab) (cs .count))) memory
+  pub remembers-of : (b : Bool) → isOrdered (t .kind) ≡ b → RemembersBy b cs (t .«bracket_width») memory → Remembers t cs memory
+  remembers-of b e = subst (λ (x : Bool). RemembersBy x cs (t .«bracket_width») memory) (sym e)
+
+-- nothing is remembered yet
+pub remembers-none : (t : Ditherer) (cs : Candidates) → Remembers t cs (replicate 801 0)
+remembers-none t cs = go (isOrdered (t .kind))
+  where
+    go : (b : Bool) → RemembersBy b cs (t .«bracket_width») (replicate 801 0)
+    go true = record { pairs = kept-none (nearestBoth cs (t .«bracket_width»)); shorts = shorts-none (shortOf (cs .oklab) (cs .count) (t .«bracket_width»)) }
+    go false = kept-none (nearestAlone (cs .oklab) (cs .count))
 
 module _ (cs : Candidates) (width : ℕ) (c : NormalizedColor) (at : BracketAt) (made : at ≡ bracketAtOf cs width (toOklab c) c) where
   -- the positions are entries of a list that holds the candidates

@@ -2,7 +2,7 @@
 -- Written from document 01, "Choosing colours" and "Diffusion runs row by row, left to right".
 use Prim.Native.Nat.{ℕ, _+_, _*_, _≤_, _<_}
 use mathlib.Core.Path.{_≡_}
-use mathlib.Core.Bool.{cond}
+use mathlib.Core.Bool.{Bool, true, false}
 use mathlib.Core.List.{List, map}
 use lib.IntN.{ℤ}
 use lib.ListN.{length}
@@ -14,8 +14,8 @@ use Rattle.color.specs.Tables.{normalizeColor}
 use Rattle.conversion.specs.Linear.{values}
 use Rattle.patterns.specs.Kinds.{isOrdered, kernelOf}
 use Rattle.shortlist.specs.Candidates.{Candidates, RangedList}
-use Rattle.lookup.specs.declared.Two.{Two}
-use Rattle.remembered.specs.Table.{nearestAlone, nearestBoth}
+use Rattle.remembered.specs.Table.{nearestAlone, Kept}
+use Rattle.remembered.specs.Shorts.{KeptBoth}
 use Rattle.diffusion.specs.Biased.{biasedColor}
 use Rattle.diffusion.specs.Scatter.{sends, scatter}
 use Rattle.diffusion.specs.Sends.{residualsOf}
@@ -52,6 +52,10 @@ pub record Diffused (t : Ditherer) (cs : Candidates) (scale : List ℕ) (zs : Li
 unfoldable pub cellsBefore : Drawing → ℕ → List Float
 cellsBefore d i = map sixteenths (scatter (kernelOf (d .kind)) (pictureOf d (drawn d)) i)
 
--- what is remembered of a colour where no error is diffused: ordered kinds, the nearest and the second; Off, the nearest
-unfoldable pub answersOf : Ditherer → Candidates → NormalizedColor → Two
-answersOf t cs = cond (isOrdered (t .kind)) (nearestBoth cs (t .«bracket_width»)) (nearestAlone (cs .oklab) (cs .count))
+-- what is remembered where no error is diffused: for an ordered kind pairs and shortlists, for Off the nearest
+abbrev pub RemembersBy : Bool → Candidates → ℕ → List ℕ → Type 0
+RemembersBy true cs width memory = KeptBoth cs width memory
+RemembersBy false cs width memory = Kept (nearestAlone (cs .oklab) (cs .count)) memory
+
+abbrev pub Remembers : Ditherer → Candidates → List ℕ → Type 0
+Remembers t cs memory = RemembersBy (isOrdered (t .kind)) cs (t .«bracket_width») memory

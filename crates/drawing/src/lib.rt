@@ -13,10 +13,11 @@ ghost use Rattle.floats.specs.Cells.{Cells};
 ghost use Rattle.patterns.specs.Kinds.{isOrdered, isDiffusion};
 ghost use Rattle.color.specs.Oklab.{oklabAt};
 ghost use Rattle.shortlist.specs.Candidates.{scaled};
-ghost use Rattle.remembered.specs.Table.{nearestAlone, nearestBoth, Kept};
+ghost use Rattle.remembered.specs.Table.{nearestAlone, Kept};
+ghost use Rattle.remembered.specs.Shorts.{KeptBoth};
 ghost use Rattle.drawing.specs.Drawing.{nearestColor, orderedColor, colorAt, drawn};
 ghost use Rattle.drawing.specs.Lent.{isZero, isSkipped, lent, drawingOf, reducedBytes, cellsAfter, Ready};
-ghost use Rattle.drawing.specs.Turns.{Linear, Choosable, Inside, Diffused, cellsBefore, answersOf};
+ghost use Rattle.drawing.specs.Turns.{Linear, Choosable, Inside, Diffused, cellsBefore, Remembers};
 
 // A picture's colour zero: absent, or one reduced colour.
 pub enum ColorZero {
@@ -61,7 +62,7 @@ fn nearest_color(
     oklab: &[f32],
     count: usize,
     color: NormalizedColor,
-    memory: &mut [u64; 257],
+    memory: &mut [u64; 801],
 ) -> ReducedColor
     requires { ⌜ Linear (now linear) × Choosable (now colors) (now scale) (now oklab) count × Kept (nearestAlone (oklabAt (now oklab)) count) (now memory) ⌝ }
     ensures { λ c. ⌜ (c ≡ nearestColor (scaled (now (colors .entry)) (now (scale .entry)) (now (oklab .entry)) count) color)
@@ -115,13 +116,13 @@ impl Ditherer {
         count: usize,
         i: usize,
         color: NormalizedColor,
-        memory: &mut [u64; 257],
+        memory: &mut [u64; 801],
     ) -> ReducedColor
         requires { ⌜ Linear (now linear) × Choosable (now colors) (now scale) (now oklab) count × Inside self i × (isOrdered (self .kind) ≡ true)
-            × Kept (nearestBoth (scaled (now colors) (now scale) (now oklab) count) (self .«bracket_width»)) (now memory) ⌝ }
+            × KeptBoth (scaled (now colors) (now scale) (now oklab) count) (self .«bracket_width») (now memory) ⌝ }
         ensures { λ c. ⌜ (c ≡ orderedColor (scaled (now (colors .entry)) (now (scale .entry)) (now (oklab .entry)) count) (self .kind) (self .«bracket_width»)
             (self .«origin_x» + i % self .width) (self .«origin_y» + i / self .width) color)
-            × Kept (nearestBoth (scaled (now (colors .entry)) (now (scale .entry)) (now (oklab .entry)) count) (self .«bracket_width»)) (now (memory .exit)) ⌝ }
+            × KeptBoth (scaled (now (colors .entry)) (now (scale .entry)) (now (oklab .entry)) count) (self .«bracket_width») (now (memory .exit)) ⌝ }
     {
         let width = self.bracket_width;
         let at = remembered::bracket_positions(
@@ -151,13 +152,13 @@ impl Ditherer {
         count: usize,
         i: usize,
         color: NormalizedColor,
-        memory: &mut [u64; 257],
+        memory: &mut [u64; 801],
     ) -> ReducedColor
         requires { ⌜ Linear (now linear) × Choosable (now colors) (now scale) (now oklab) count × Inside self i
-            × Kept (answersOf self (scaled (now colors) (now scale) (now oklab) count)) (now memory) ⌝ }
+            × Remembers self (scaled (now colors) (now scale) (now oklab) count) (now memory) ⌝ }
         ensures { λ c. ⌜ (c ≡ colorAt (scaled (now (colors .entry)) (now (scale .entry)) (now (oklab .entry)) count) (self .kind) (self .«bracket_width»)
             (self .«origin_x» + i % self .width) (self .«origin_y» + i / self .width) color)
-            × Kept (answersOf self (scaled (now (colors .entry)) (now (scale .entry)) (now (oklab .entry)) count)) (now (memory .exit)) ⌝ }
+            × Remembers self (scaled (now (colors .entry)) (now (scale .entry)) (now (oklab .entry)) count) (now (memory .exit)) ⌝ }
     {
         if patterns::is_ordered(self.kind) {
             return self.ordered_color_at(linear, colors, scale, oklab, count, i, color, memory);
@@ -176,7 +177,7 @@ impl Ditherer {
         count: usize,
         i: usize,
         color: NormalizedColor,
-        memory: &mut [u64; 257],
+        memory: &mut [u64; 801],
         cells: &mut [f32],
     ) -> ReducedColor
         requires { ⌜ Linear (now linear) × Choosable (now colors) (now scale) (now oklab) count × Inside self i × (isDiffusion (self .kind) ≡ true)
@@ -218,13 +219,13 @@ impl Ditherer {
         oklab: &[f32],
         count: usize,
         i: usize,
-        memory: &mut [u64; 257],
+        memory: &mut [u64; 801],
     ) -> ReducedColor
         requires { ⌜ Linear (now linear) × Ready self zero (lent (now reduction) (now scale) (now pixels) (now colors) (now oklab) count)
             × (isDiffusion (self .kind) ≡ false) × (i < self .width * self .height)
-            × Kept (answersOf self (scaled (now colors) (now scale) (now oklab) count)) (now memory) ⌝ }
+            × Remembers self (scaled (now colors) (now scale) (now oklab) count) (now memory) ⌝ }
         ensures { λ c. ⌜ (c ≡ drawn (drawingOf self zero (lent (now (reduction .entry)) (now (scale .entry)) (now (pixels .entry)) (now (colors .entry)) (now (oklab .entry)) count)) i)
-            × Kept (answersOf self (scaled (now (colors .entry)) (now (scale .entry)) (now (oklab .entry)) count)) (now (memory .exit)) ⌝ }
+            × Remembers self (scaled (now (colors .entry)) (now (scale .entry)) (now (oklab .entry)) count) (now (memory .exit)) ⌝ }
     {
         let kept = picture::pixel_at(reduction, pixels, i);
         if is_skipped(zero, kept) {
@@ -247,7 +248,7 @@ impl Ditherer {
         oklab: &[f32],
         count: usize,
         i: usize,
-        memory: &mut [u64; 257],
+        memory: &mut [u64; 801],
         cells: &mut [f32],
     ) -> ReducedColor
         requires { ⌜ Linear (now linear) × Ready self zero (lent (now reduction) (now scale) (now pixels) (now colors) (now oklab) count)
@@ -279,12 +280,12 @@ impl Ditherer {
         colors: &[u8],
         oklab: &[f32],
         count: usize,
-        memory: &mut [u64; 257],
+        memory: &mut [u64; 801],
         out: &mut [u8],
     )
         requires { ⌜ Linear (now linear) × Ready self zero (lent (now reduction) (now scale) (now pixels) (now colors) (now oklab) count)
             × (isDiffusion (self .kind) ≡ false) × (length (now out) ≡ 4 * (self .width * self .height))
-            × Kept (answersOf self (scaled (now colors) (now scale) (now oklab) count)) (now memory) ⌝ }
+            × Remembers self (scaled (now colors) (now scale) (now oklab) count) (now memory) ⌝ }
         ensures { λ _. ⌜ now (out .exit) ≡ reducedBytes (drawingOf self zero (lent (now (reduction .entry)) (now (scale .entry)) (now (pixels .entry)) (now (colors .entry)) (now (oklab .entry)) count)) ⌝ }
     {
         let size = self.width as usize * self.height as usize;
@@ -318,7 +319,7 @@ impl Ditherer {
         colors: &[u8],
         oklab: &[f32],
         count: usize,
-        memory: &mut [u64; 257],
+        memory: &mut [u64; 801],
         out: &mut [u8],
         cells: &mut [f32],
     )
@@ -370,7 +371,7 @@ impl Ditherer {
             × (now (cells .exit) ≡ cellsAfter (drawingOf self zero (lent (now (reduction .entry)) (now (scale .entry)) (now (pixels .entry)) (now (colors .entry)) (now (oklab .entry)) count)) (now (cells .entry))) ⌝ }
     {
         let linear = conversion::linear::linear_table();
-        let mut memory = [0u64; 257];
+        let mut memory = [0u64; 801];
         if patterns::is_diffusion(self.kind) {
             self.draw_diffused(
                 zero,

@@ -4,11 +4,12 @@
 use mathlib.Core.Path.{_≡_, refl, sym, ap, _∙_, subst}
 use mathlib.Core.Logic.{_⊎_, inl, inr}
 use mathlib.Core.List.{List, [], _∷_, _++_}
-use mathlib.Core.Bool.{Bool, true, false, cond, not, _||_}
+use mathlib.Core.Bool.{Bool, true, false, cond, _||_}
 use Prim.Native.Nat.{ℕ, zero, suc, _+_, _≤_, _<_}
 use native.Mathlib.Nat.{not-suc-le-zero}
 use native.Mathlib.Numerals.{add-one}
 use native.Mathlib.Omega.{arith}
+use lib.Dec.{eqb}
 use lib.ListN.{length, getD, take, length-append, List·getD-append}
 use lib.Seq.{take-suc, getD-take, length-take-le, getD-append-add}
 use lib.Ieee.{Float, lt}
@@ -76,16 +77,16 @@ module _ (e : ℕ → Float) where
 -- ---- what the loop holds
 
 -- `improved` takes one entry more into account
-held-more : (e : ℕ → Float) (best : Best) (ks : List ℕ) (k : ℕ) → Held e best ks → Held e (improved best k (e k)) (ks ++ k ∷ [])
+held-more : (e : ℕ → Float) (best : Best) (ks : List ℕ) (k : ℕ) → Held e best ks → Held e (improved best k true (e k)) (ks ++ k ∷ [])
 unfolding improved
 held-more e best [] k h =
-    subst (λ (b : Bool). Held e (cond (not b || lt (e k) (best .error)) (record { found = true; position = k; error = e k }) best) (k ∷ [])) (sym h)
+    subst (λ (b : ℕ). Held e (cond (eqb b 0 || lt (e k) (best .error)) (record { found = 1; error = e k; position = k }) best) (k ∷ [])) (sym h)
     (refl, sym (among-one e k), ap e (sym (among-one e k)))
 held-more e best (j ∷ js) k h =
-    subst (λ (b : Bool). Held e (cond (not b || lt (e k) (best .error)) (record { found = true; position = k; error = e k }) best) (j ∷ (js ++ k ∷ []))) (sym (h .0))
+    subst (λ (b : ℕ). Held e (cond (eqb b 0 || lt (e k) (best .error)) (record { found = 1; error = e k; position = k }) best) (j ∷ (js ++ k ∷ []))) (sym (h .0))
     (go (lt (e k) (best .error)) (ap (lt (e k)) (sym (h .2))))
   where
-    go : (u : Bool) → lt (e k) (e (leastAmong e (j ∷ js))) ≡ u → Held e (cond u (record { found = true; position = k; error = e k }) best) (j ∷ (js ++ k ∷ []))
+    go : (u : Bool) → lt (e k) (e (leastAmong e (j ∷ js))) ≡ u → Held e (cond u (record { found = 1; error = e k; position = k }) best) (j ∷ (js ++ k ∷ []))
     go true g = let m : k ≡ leastAmong e (j ∷ (js ++ k ∷ [])) = sym (among-more e (j ∷ js) k (omega arith) ∙ rw g) in (refl, m, ap e m)
     go false g = let m : leastAmong e (j ∷ js) ≡ leastAmong e (j ∷ (js ++ k ∷ [])) = sym (among-more e (j ∷ js) k (omega arith) ∙ rw g) in (h .0, h .1 ∙ m, h .2 ∙ ap e m)
 
@@ -101,24 +102,18 @@ those-more p (x ∷ xs) k = go (p x) (p k) (those-more p xs k)
     go false false q = q
 
 -- what `weigh` answers
-module _ (best r : Best) (k : ℕ) (a b c : NormalizedColor) (t : Float) (s : Bool) (T : t ≡ lerpOf a b c false) (S : s ≡ between t) where
-  pub weighed-in : (x : Float) → s ≡ true → x ≡ mixResidual a b t c → r ≡ improved best k x → r ≡ weighed best k a b c
-  unfolding weighed lerpOf
-  weighed-in x e f g =
-      let u : between (shareOf a b c) ≡ true = ap between (sym T) ∙ sym S ∙ e in
-      g ∙ ap (improved best k) (f ∙ ap (λ (v : Float). mixResidual a b v c) T) ∙ sym (rw u)
-
-  pub weighed-out : s ≡ false → best ≡ weighed best k a b c
-  unfolding weighed lerpOf
-  weighed-out e = let u : between (shareOf a b c) ≡ false = ap between (sym T) ∙ sym S ∙ e in sym (rw u)
+pub weighed-is : (best r : Best) (k : ℕ) (a b c : NormalizedColor) (t : Float) (s : Bool) (x : Float) → t ≡ lerpOf a b c false → s ≡ between t → x ≡ mixResidual a b t c → r ≡ improved best k s x → r ≡ weighed best k a b c
+unfolding weighed lerpOf
+weighed-is best r k a b c t s x T S X e =
+    e ∙ ap (λ (u : Bool). improved best k u x) (S ∙ ap between T) ∙ ap (improved best k (between (shareOf a b c))) (X ∙ ap (λ (v : Float). mixResidual a b v c) T)
 
 module _ (normalized : ℕ → NormalizedColor) (a : ℕ) (c : NormalizedColor) where
   one-more : (best : Best) (ks : List ℕ) (k : ℕ) → Held (mixError normalized a c) best (those (mixable normalized a c) ks)
       → Held (mixError normalized a c) (weighed best k (normalized a) (normalized k) c) (those (mixable normalized a c) (ks ++ k ∷ []))
-  unfolding weighed
+  unfolding weighed improved
   one-more best ks k h = rw (those-more (mixable normalized a c) ks k) (go (mixable normalized a c k))
     where
-      go : (u : Bool) → Held (mixError normalized a c) (cond u (improved best k (mixError normalized a c k)) best) (cond u (those (mixable normalized a c) ks ++ k ∷ []) (those (mixable normalized a c) ks))
+      go : (u : Bool) → Held (mixError normalized a c) (improved best k u (mixError normalized a c k)) (cond u (those (mixable normalized a c) ks ++ k ∷ []) (those (mixable normalized a c) ks))
       go true = held-more (mixError normalized a c) best (those (mixable normalized a c) ks) k h
       go false = h
 
@@ -134,18 +129,18 @@ module _ (normalized : ℕ → NormalizedColor) (a : ℕ) (c : NormalizedColor) 
 
 -- ---- the end: what the loop held, read out
 module _ (e : ℕ → Float) (best : Best) where
-  pub second-found : (qs ks : List ℕ) → Held e best qs → best .found ≡ true → At (best .position) ≡ secondIn e qs ks
-  second-found [] ks h t = absurd (clash t h)
+  pub second-found : (qs ks : List ℕ) → Held e best qs → (best .found ≡ 0 → ⊥) → At (best .position) ≡ secondIn e qs ks
+  second-found [] ks h t = absurd (t h)
   second-found (q ∷ qs) ks h t = ap At (h .1)
 
-  pub second-front : (qs ps : List ℕ) (n : ℕ) → Held e best qs → best .found ≡ false → 0 < n → n ≤ length ps → At (getD ps 0 0) ≡ secondIn e qs (take n ps)
-  second-front (q ∷ qs) ps n h f p l = absurd (clash (h .0) f)
+  pub second-front : (qs ps : List ℕ) (n : ℕ) → Held e best qs → best .found ≡ 0 → 0 < n → n ≤ length ps → At (getD ps 0 0) ≡ secondIn e qs (take n ps)
+  second-front (q ∷ qs) ps n h f p l = absurd (omega (arith, h .0))
   second-front [] [] n h f p l = absurd (omega arith)
   second-front [] (k ∷ ps) zero h f p l = absurd (not-suc-le-zero p)
   second-front [] (k ∷ ps) (suc n) h f p l = refl
 
-  pub second-nothing : (qs ps : List ℕ) (n : ℕ) → Held e best qs → best .found ≡ false → n ≤ 0 → Nothing ≡ secondIn e qs (take n ps)
-  second-nothing (q ∷ qs) ps n h f p = absurd (clash (h .0) f)
+  pub second-nothing : (qs ps : List ℕ) (n : ℕ) → Held e best qs → best .found ≡ 0 → n ≤ 0 → Nothing ≡ secondIn e qs (take n ps)
+  second-nothing (q ∷ qs) ps n h f p = absurd (omega (arith, h .0))
   second-nothing [] ps zero h f p = refl
   second-nothing [] ps (suc n) h f p = absurd (not-suc-le-zero p)
 

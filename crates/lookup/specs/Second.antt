@@ -4,7 +4,8 @@
 use Prim.Native.Nat.{ℕ}
 use mathlib.Core.Path.{_≡_}
 use mathlib.Core.List.{List, [], _∷_}
-use mathlib.Core.Bool.{Bool, true, false, cond, not, _||_}
+use mathlib.Core.Bool.{Bool, cond, _&&_, _||_}
+use lib.Dec.{eqb}
 use lib.ListN.{length, getD}
 use lib.Ieee.{Float, lt}
 use Rattle.lists.specs.Least.{leastOf, Least}
@@ -62,13 +63,13 @@ nearestTwoOf cs width o c = record { first = nearestOf cs o; second = secondTo c
 
 -- best is the first of the least among these, or nothing where there are none
 abbrev pub Held : (ℕ → Float) → Best → List ℕ → Type 0
-Held e best [] = best .found ≡ false
-Held e best (k ∷ ks) = (best .found ≡ true) × (best .position ≡ leastAmong e (k ∷ ks)) × (best .error ≡ e (leastAmong e (k ∷ ks)))
+Held e best [] = best .found ≡ 0
+Held e best (k ∷ ks) = (best .found ≡ 1) × (best .position ≡ leastAmong e (k ∷ ks)) × (best .error ≡ e (leastAmong e (k ∷ ks)))
 
--- k with its error, where there is no best yet or its error is below the best's
-unfoldable pub improved : Best → ℕ → Float → Best
-improved best k error = cond (not (best .found) || lt error (best .error)) (record { found = true; position = k; error = error }) best
+-- k with its error, where it mixes, and there is no best yet or its error is below the best's
+unfoldable pub improved : Best → ℕ → Bool → Float → Best
+improved best k mixes error = cond (mixes && (eqb (best .found) 0 || lt error (best .error))) (record { found = 1; error = error; position = k }) best
 
 -- entry k's turn: it counts where its share is from 0 to 1
 unfoldable pub weighed : Best → ℕ → NormalizedColor → NormalizedColor → NormalizedColor → Best
-weighed best k c1 c2 c = cond (between (shareOf c1 c2 c)) (improved best k (mixResidual c1 c2 (shareOf c1 c2 c) c)) best
+weighed best k c1 c2 c = improved best k (between (shareOf c1 c2 c)) (mixResidual c1 c2 (shareOf c1 c2 c) c)

@@ -33,11 +33,12 @@ pub struct Two {
     pub second: Second,
 }
 
-// The best mix so far: nothing yet, or a position with its error.
+// The best mix so far: a position with its error where `found` is 1, nothing yet where it is 0. As a number beside the error
+// `found` leaves no gap in the record: the loop would copy a gap too, and slowly.
 pub struct Best {
-    pub found: bool,
-    pub position: usize,
+    pub found: u32,
     pub error: f32,
+    pub position: usize,
 }
 
 // A bracket by positions.

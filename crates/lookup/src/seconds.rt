@@ -35,15 +35,16 @@ fn is_share(t: f32) -> bool
     (0.0 <= t) & (t <= 1.0)
 }
 
-// k with its error, where there is no best yet or its error is below the best's.
-fn improve(best: Best, k: usize, error: f32) -> Best
-    ensures { λ r. ⌜ r ≡ improved best k error ⌝ }
+// k with its error, where it mixes, and there is no best yet or its error is below the best's. One test, since which of its
+// parts decides is anyone's guess.
+fn improve(best: Best, k: usize, mixes: bool, error: f32) -> Best
+    ensures { λ r. ⌜ r ≡ improved best k mixes error ⌝ }
 {
-    if !best.found | (error < best.error) {
+    if mixes & ((best.found == 0) | (error < best.error)) {
         return Best {
-            found: true,
-            position: k,
+            found: 1,
             error: error,
+            position: k,
         };
     }
     best
@@ -60,10 +61,7 @@ fn weigh(
     ensures { λ r. ⌜ r ≡ weighed best k a b color ⌝ }
 {
     let t = lerp(a, b, color, false);
-    if is_share(t) {
-        return improve(best, k, mix_residual(a, b, t, color));
-    }
-    best
+    improve(best, k, is_share(t), mix_residual(a, b, t, color))
 }
 
 // The best of the shortlist's entries beside entry a, if one of them mixes.
@@ -82,9 +80,9 @@ fn best_of(
 {
     let c1 = normal_at(colors, scale, a);
     let mut best = Best {
-        found: false,
-        position: 0,
+        found: 0,
         error: 0.0,
+        position: 0,
     };
     let mut i = 0;
     while i < count {
@@ -112,7 +110,7 @@ pub fn second_of(
         (mixError (normals (now (colors .entry)) (now (scale .entry))) a color) (take count (now (positions .entry))) ⌝ }
 {
     let best = best_of(colors, scale, a, positions, count, color);
-    if best.found {
+    if best.found != 0 {
         return Second::At(best.position);
     }
     if count > 0 {

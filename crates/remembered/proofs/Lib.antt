@@ -1,2 +1,3 @@
 -- The laws of `remembered`.
 pub mod TableLaws
+pub mod ShortLaws

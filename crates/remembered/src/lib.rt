@@ -1,15 +1,18 @@
 // Answers remembered by colour, so that a colour that comes again is not looked up again. The original keeps a `HashMap` of
-// brackets; here it is a lent table of 256 words, one for each hash, and behind them the position that was found last, which is
-// where the next search begins.
+// brackets; here it is a lent table of 256 words, one for each hash, behind them the position that was found last, which is
+// where the next search begins, and then 32 rows of shortlists.
+pub mod shorts;
+
 use color::NormalizedColor;
 use conversion::to_oklab_with;
 use lookup::BracketAt;
 use lookup::Second;
 use lookup::Two;
 use lookup::brackets::bracket_with;
-use lookup::seconds::nearest_two_positions;
+use lookup::seconds::second_of;
 ghost use mathlib.Core.Path.{_≡_};
-ghost use Prim.Native.Nat.{_+_, _-_, _*_, _/_, _%_, _<_, _≤_};
+ghost use mathlib.Core.List.{List};
+ghost use Prim.Native.Nat.{ℕ, _+_, _-_, _*_, _/_, _%_, _<_, _≤_};
 ghost use lib.ListN.{length, getD, set};
 ghost use Rattle.color.specs.declared.NormalizedColor.{NormalizedColor};
 ghost use Rattle.lookup.specs.declared.Two.{Two};
@@ -20,7 +23,8 @@ ghost use Rattle.shortlist.specs.Candidates.{scaled, RangedList};
 ghost use Rattle.shortlist.specs.Nearest.{nearestIn};
 ghost use Rattle.lookup.specs.Second.{nearestTwoOf};
 ghost use Rattle.lookup.specs.Bracket.{bracketAtOf};
-ghost use Rattle.remembered.specs.Table.{nearestAlone, nearestBoth, keyOf, secondWith, pairWith, Kept, ByRgb};
+ghost use Rattle.remembered.specs.Shorts.{Shorts, KeptBoth};
+ghost use Rattle.remembered.specs.Table.{nearestAlone, keyOf, secondWith, pairWith, Kept, ByRgb};
 
 // ---- keys, and pairs as numbers
 
@@ -89,8 +93,8 @@ fn pair_with(x: u64) -> Two
 // ---- the table
 
 // What is remembered of a colour: its pair's number and one more, or 0.
-fn recalled(memory: &[u64; 257], c: NormalizedColor) -> u64
-    requires { ⌜ length (now memory) ≡ 257 ⌝ }
+fn recalled(memory: &[u64; 801], c: NormalizedColor) -> u64
+    requires { ⌜ length (now memory) ≡ 801 ⌝ }
     ensures { λ r. ⌜ ((f : NormalizedColor → Two) → Kept f (now (memory .entry)) → 0 < r → pairWith (r - 1) ≡ f c) ⌝ }
 {
     let key = key_of(c);
@@ -102,9 +106,10 @@ fn recalled(memory: &[u64; 257], c: NormalizedColor) -> u64
 }
 
 // Remembers a colour's pair, if it has a number.
-fn keep(memory: &mut [u64; 257], c: NormalizedColor, pair: Two)
-    requires { ⌜ length (now memory) ≡ 257 ⌝ }
-    ensures { λ _. ⌜ ((f : NormalizedColor → Two) → ByRgb f → pair ≡ f c → Kept f (now (memory .entry)) → Kept f (now (memory .exit))) ⌝ }
+fn keep(memory: &mut [u64; 801], c: NormalizedColor, pair: Two)
+    requires { ⌜ length (now memory) ≡ 801 ⌝ }
+    ensures { λ _. ⌜ ((f : NormalizedColor → Two) → ByRgb f → pair ≡ f c → Kept f (now (memory .entry)) → Kept f (now (memory .exit)))
+        × ((g : ℕ → List ℕ) → Shorts g (now (memory .entry)) → Shorts g (now (memory .exit))) ⌝ }
 {
     let key = key_of(c);
     let x = number_of(pair);
@@ -114,8 +119,8 @@ fn keep(memory: &mut [u64; 257], c: NormalizedColor, pair: Two)
 }
 
 // The position that was found last, or 0 where the list has not as many.
-fn last_of(memory: &[u64; 257], count: usize) -> usize
-    requires { ⌜ (length (now memory) ≡ 257) × (0 < count) ⌝ }
+fn last_of(memory: &[u64; 801], count: usize) -> usize
+    requires { ⌜ (length (now memory) ≡ 801) × (0 < count) ⌝ }
     ensures { λ k. ⌜ k < count ⌝ }
 {
     let k = memory[256] as usize;
@@ -123,9 +128,10 @@ fn last_of(memory: &[u64; 257], count: usize) -> usize
 }
 
 // Notes the position that was found.
-fn note_last(memory: &mut [u64; 257], k: usize)
-    requires { ⌜ length (now memory) ≡ 257 ⌝ }
-    ensures { λ _. ⌜ ((f : NormalizedColor → Two) → Kept f (now (memory .entry)) → Kept f (now (memory .exit))) ⌝ }
+fn note_last(memory: &mut [u64; 801], k: usize)
+    requires { ⌜ length (now memory) ≡ 801 ⌝ }
+    ensures { λ _. ⌜ ((f : NormalizedColor → Two) → Kept f (now (memory .entry)) → Kept f (now (memory .exit)))
+        × ((g : ℕ → List ℕ) → Shorts g (now (memory .entry)) → Shorts g (now (memory .exit))) ⌝ }
 {
     memory[256] = k as u64;
 }
@@ -153,7 +159,7 @@ pub fn nearest_position(
     oklab: &[f32],
     count: usize,
     color: NormalizedColor,
-    memory: &mut [u64; 257],
+    memory: &mut [u64; 801],
 ) -> usize
     requires { ⌜ (now linear ≡ values) × (0 < count) × RangedList (now oklab) count × Kept (nearestAlone (oklabAt (now oklab)) count) (now memory) ⌝ }
     ensures { λ k. ⌜ (k ≡ nearestIn (oklabAt (now (oklab .entry))) count (toOklab color))
@@ -175,7 +181,7 @@ pub fn nearest_position(
     k
 }
 
-// The nearest entry and the second, worked out.
+// The nearest entry and the second, worked out, but for the shortlist where that is remembered.
 fn pair_anew(
     linear: &[u64; 256],
     oklab: &[f32],
@@ -185,12 +191,21 @@ fn pair_anew(
     width: u64,
     color: NormalizedColor,
     seed: usize,
+    memory: &mut [u64; 801],
 ) -> Two
-    requires { ⌜ (now linear ≡ values) × (4 * count ≤ length (now colors)) × (length (now scale) ≡ 256) × RangedList (now oklab) count × (seed < count) ⌝ }
-    ensures { λ r. ⌜ r ≡ nearestTwoOf (scaled (now (colors .entry)) (now (scale .entry)) (now (oklab .entry)) count) width (toOklab color) color ⌝ }
+    requires { ⌜ (now linear ≡ values) × (4 * count ≤ length (now colors)) × (length (now scale) ≡ 256) × RangedList (now oklab) count × (seed < count)
+        × KeptBoth (scaled (now colors) (now scale) (now oklab) count) width (now memory) ⌝ }
+    ensures { λ r. ⌜ (r ≡ nearestTwoOf (scaled (now (colors .entry)) (now (scale .entry)) (now (oklab .entry)) count) width (toOklab color) color)
+        × KeptBoth (scaled (now (colors .entry)) (now (scale .entry)) (now (oklab .entry)) count) width (now (memory .exit)) ⌝ }
 {
-    let o = to_oklab_with(linear, color);
-    nearest_two_positions(oklab, colors, scale, count, width, o, color, seed)
+    let a = nearest_anew(linear, oklab, count, color, seed);
+    let mut positions = [0usize; 16];
+    let m = shorts::shortlist(oklab, count, a, width, &mut positions, memory);
+    let second = second_of(colors, scale, a, &positions, m, color);
+    Two {
+        first: a,
+        second: second,
+    }
 }
 
 // The positions of the nearest entry and the second. No public call: the caller sees to the table of linear values, lengths,
@@ -203,19 +218,29 @@ fn pair_positions(
     count: usize,
     width: u64,
     color: NormalizedColor,
-    memory: &mut [u64; 257],
+    memory: &mut [u64; 801],
 ) -> Two
     requires { ⌜ (now linear ≡ values) × (0 < count) × (4 * count ≤ length (now colors)) × (length (now scale) ≡ 256) × RangedList (now oklab) count
-        × Kept (nearestBoth (scaled (now colors) (now scale) (now oklab) count) width) (now memory) ⌝ }
+        × KeptBoth (scaled (now colors) (now scale) (now oklab) count) width (now memory) ⌝ }
     ensures { λ r. ⌜ (r ≡ nearestTwoOf (scaled (now (colors .entry)) (now (scale .entry)) (now (oklab .entry)) count) width (toOklab color) color)
-        × Kept (nearestBoth (scaled (now (colors .entry)) (now (scale .entry)) (now (oklab .entry)) count) width) (now (memory .exit)) ⌝ }
+        × KeptBoth (scaled (now (colors .entry)) (now (scale .entry)) (now (oklab .entry)) count) width (now (memory .exit)) ⌝ }
 {
     let known = recalled(memory, color);
     if known > 0 {
         return pair_with(known - 1);
     }
     let seed = last_of(memory, count);
-    let pair = pair_anew(linear, oklab, colors, scale, count, width, color, seed);
+    let pair = pair_anew(
+        linear,
+        oklab,
+        colors,
+        scale,
+        count,
+        width,
+        color,
+        seed,
+        memory,
+    );
     keep(memory, color, pair);
     note_last(memory, pair.first);
     pair
@@ -231,12 +256,12 @@ pub fn bracket_positions(
     count: usize,
     width: u64,
     color: NormalizedColor,
-    memory: &mut [u64; 257],
+    memory: &mut [u64; 801],
 ) -> BracketAt
     requires { ⌜ (now linear ≡ values) × (0 < count) × (4 * count ≤ length (now colors)) × (length (now scale) ≡ 256) × RangedList (now oklab) count
-        × Kept (nearestBoth (scaled (now colors) (now scale) (now oklab) count) width) (now memory) ⌝ }
+        × KeptBoth (scaled (now colors) (now scale) (now oklab) count) width (now memory) ⌝ }
     ensures { λ r. ⌜ (r ≡ bracketAtOf (scaled (now (colors .entry)) (now (scale .entry)) (now (oklab .entry)) count) width (toOklab color) color)
-        × Kept (nearestBoth (scaled (now (colors .entry)) (now (scale .entry)) (now (oklab .entry)) count) width) (now (memory .exit)) ⌝ }
+        × KeptBoth (scaled (now (colors .entry)) (now (scale .entry)) (now (oklab .entry)) count) width (now (memory .exit)) ⌝ }
 {
     let pair = pair_positions(linear, oklab, colors, scale, count, width, color, memory);
     let a = pair.first;

@@ -3,9 +3,11 @@
 -- (`distance-order`); NaN and -0, where the two orders differ, do not arise. Assumes nothing.
 use mathlib.Core.Path.{_≡_}
 use mathlib.Core.Logic.{_⊎_}
-use Prim.Native.Nat.{ℕ, _<_}
+use mathlib.Core.List.{List}
+use Prim.Native.Nat.{ℕ, _≤_, _<_}
+use native.Mathlib.Omega.{arith}
 use lib.Dec.{T}
-use lib.Ieee.{binary32, lt}
+use lib.Ieee.{Float, binary32, lt}
 use Rattle.floats.specs.Bounds.{Upto}
 use Rattle.floats.proofs.Order.{Plain, upto-plain, lt-asymmetric, nlt-trans, trichotomy}
 use Rattle.lists.specs.Least.{Least, Comparison}
@@ -13,7 +15,7 @@ use Rattle.lists.proofs.LeastLaws.{least-is, least-only, least-inside}
 use Rattle.color.specs.declared.Oklab.{Oklab}
 use Rattle.color.specs.Oklab.{allInRange, sqdistOf}
 use Rattle.color.proofs.Distances.{all-in-range, distance-upto, distance-fits}
-use Rattle.shortlist.specs.Candidates.{Candidates}
+use Rattle.shortlist.specs.Candidates.{Candidates, RangedList}
 use Rattle.shortlist.specs.Nearest.{distances, nearestIn, nearestOf}
 
 -- `<` on values that are finite, not negative and not -0
@@ -34,6 +36,10 @@ module _ (oklab : ℕ → Oklab) (n : ℕ) (range : (k : ℕ) → k < n → T (a
 
   pub distances-plain : (k : ℕ) → k < n → Plain (distances o oklab k)
   distances-plain k h = upto-plain 112 (distances o oklab k) (distances-upto k h)
+
+-- the first m of n colours within range are within range
+pub ranged-fewer : (oklab : List Float) (m n : ℕ) → m ≤ n → RangedList oklab n → RangedList oklab m
+ranged-fewer oklab m n h r = record { long = omega (arith, r .long); range = λ k l. r .range k (omega arith) }
 
 -- ---- no entry is nearer, and every earlier entry is farther
 pub nearest-least : (cs : Candidates) (o : Oklab) → 0 < cs .count → ((k : ℕ) → k < cs .count → T (allInRange (cs .oklab k))) → T (allInRange o)

@@ -2,9 +2,10 @@
 -- Written from document 01, "Choosing colours": "`nearest`: smallest distance, first of equals."
 use mathlib.Core.Path.{_≡_}
 use Prim.Native.Nat.{ℕ, zero, suc, _+_, _≤_, _<_}
-use mathlib.Core.Bool.{Bool, true, _&&_}
+use mathlib.Core.Bool.{Bool, true, cond, not, _&&_}
+use lib.Dec.{T}
 use lib.Ieee.{Float, lt}
-use Rattle.lists.specs.Least.{leastOf, Front}
+use Rattle.lists.specs.Least.{leastOf}
 use Rattle.floats.specs.Bounds.{Upto}
 use Rattle.color.specs.declared.Oklab.{Oklab}
 use Rattle.color.specs.Oklab.{sqdistOf}
@@ -29,13 +30,19 @@ unfoldable pub farther : (ℕ → Float) → Float → ℕ → ℕ → Bool
 farther d limit k zero = true
 farther d limit k (suc n) = farther d limit k n && lt limit (d (k + n))
 
--- of n entries the first i are seen: the leader, which may stand anywhere among the n, is as near as any of them, and nearer than those that stand
--- before it
-pub record Leads (d : ℕ → Float) (n i : ℕ) (leader : Leader) : Type 0 where
+-- the lesser of two, the first of equals
+unfoldable pub lesserOf : Float → Float → Float
+lesserOf a b = cond (lt b a) b a
+
+-- of n entries the first i are seen. The leader, one of them or the very first, is as near as any of them that is not farther than the reach, and
+-- nearer than those of these that stand before it
+pub record Leads (d : ℕ → Float) (reach : Float) (n i : ℕ) (leader : Leader) : Type 0 where
   pub inside : leader .position < n
+  pub behind : leader .position ≤ i
   pub away : leader .distance ≡ d (leader .position)
-  pub front : Front lt d i (leader .position)
+  pub least : (j : ℕ) → j < i → T (not (lt reach (d j))) → T (not (lt (d j) (leader .distance)))
+  pub first : (j : ℕ) → j < i → T (not (lt reach (d j))) → j < leader .position → T (lt (leader .distance) (d j))
 
 -- what led the first i leads the first k as `after`, in every list of distances that are finite and not negative
-abbrev pub Onward : (ℕ → Float) → ℕ → ℕ → Leader → Leader → Type 0
-Onward d i k before after = (n : ℕ) → k ≤ n → ((j : ℕ) → j < n → Upto 112 (d j)) → Leads d n i before → Leads d n k after
+abbrev pub Onward : (ℕ → Float) → Float → ℕ → ℕ → Leader → Leader → Type 0
+Onward d reach i k before after = (n : ℕ) → k ≤ n → ((j : ℕ) → j < n → Upto 112 (d j)) → Leads d reach n i before → Leads d reach n k after

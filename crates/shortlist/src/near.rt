@@ -1,6 +1,6 @@
-// The nearest entry of a flat list of Oklab colours. A short list is searched entry by entry; a longer one from a seed, eight
-// entries at a time: eight that are all farther than the leader are passed over, and where the last search ended is a good
-// seed. The seed changes nothing but the time.
+// The nearest entry of a flat list of Oklab colours. A short list is searched entry by entry; a longer one eight entries at a
+// time: eight that are all farther than the leader, or all farther than a seed, are passed over. Where the last search ended
+// is a good seed; it changes nothing but the time.
 use color::Oklab;
 use color::oklab_at;
 use color::sqdist;
@@ -11,7 +11,7 @@ ghost use lib.ListN.{length};
 ghost use lib.Ieee.{Float};
 ghost use Rattle.color.specs.Oklab.{allInRange, oklabAt};
 ghost use Rattle.shortlist.specs.Candidates.{RangedList};
-ghost use Rattle.shortlist.specs.Nearest.{distances, nearestIn, farther, Onward};
+ghost use Rattle.shortlist.specs.Nearest.{distances, nearestIn, farther, lesserOf, Onward};
 
 // The entry in front so far, and its distance.
 pub struct Leader {
@@ -51,11 +51,21 @@ pub fn eight_farther(oklab: &[f32], k: usize, o: Oklab, limit: f32) -> bool
         & (limit < d7)
 }
 
-// The leader after entry k, at distance d: k where it is nearer, or as near and before the leader.
-fn leader_after(leader: Leader, k: usize, d: f32) -> Leader
-    ensures { λ r. ⌜ ((f : ℕ → Float) → d ≡ f k → Onward f k (k + 1) leader r) ⌝ }
+// The lesser of two distances, the first of equals.
+fn lesser(a: f32, b: f32) -> f32
+    ensures { λ r. ⌜ r ≡ lesserOf a b ⌝ }
 {
-    if (d < leader.distance) | (!(leader.distance < d) & (k < leader.position)) {
+    if b < a {
+        return b;
+    }
+    a
+}
+
+// The leader after entry k, at distance d: k where it is nearer.
+fn leader_after(leader: Leader, k: usize, d: f32) -> Leader
+    ensures { λ r. ⌜ ((f : ℕ → Float) (reach : Float) → d ≡ f k → Onward f reach k (k + 1) leader r) ⌝ }
+{
+    if d < leader.distance {
         return Leader {
             position: k,
             distance: d,
@@ -67,7 +77,7 @@ fn leader_after(leader: Leader, k: usize, d: f32) -> Leader
 // The leader after the entries from `from` to before `to`, one by one.
 fn leader_by_one(oklab: &[f32], o: Oklab, from: usize, to: usize, start: Leader) -> Leader
     requires { ⌜ (from ≤ to) × (3 * to ≤ length (now oklab)) ⌝ }
-    ensures { λ r. ⌜ Onward (distances o (oklabAt (now (oklab .entry)))) from to start r ⌝ }
+    ensures { λ r. ⌜ ((reach : Float) → Onward (distances o (oklabAt (now (oklab .entry)))) reach from to start r) ⌝ }
 {
     let mut leader = start;
     let mut k = from;
@@ -79,63 +89,49 @@ fn leader_by_one(oklab: &[f32], o: Oklab, from: usize, to: usize, start: Leader)
     leader
 }
 
-// The leader after eight entries from k on: one by one only where one of them may come to the front.
-fn leader_by_eight(oklab: &[f32], o: Oklab, k: usize, leader: Leader) -> Leader
+// The leader after eight entries from k on: one by one only where one of them is not farther than the leader and the reach,
+// which is how far some entry is.
+fn leader_by_eight(oklab: &[f32], o: Oklab, reach: f32, k: usize, leader: Leader) -> Leader
     requires { ⌜ 3 * k + 23 < length (now oklab) ⌝ }
-    ensures { λ r. ⌜ Onward (distances o (oklabAt (now (oklab .entry)))) k (k + 8) leader r ⌝ }
+    ensures { λ r. ⌜ Onward (distances o (oklabAt (now (oklab .entry)))) reach k (k + 8) leader r ⌝ }
 {
-    if eight_farther(oklab, k, o, leader.distance) {
+    let limit = lesser(reach, leader.distance);
+    if eight_farther(oklab, k, o, limit) {
         return leader;
     }
     leader_by_one(oklab, o, k, k + 8, leader)
 }
 
-// The nearest of a short list: no seed and no blocks.
-fn nearest_by_one(oklab: &[f32], count: usize, o: Oklab) -> usize
-    requires { ⌜ (0 < count) × (3 * count ≤ length (now oklab)) ⌝ }
-    ensures { λ r. ⌜ r ≡ nearestIn (oklabAt (now (oklab .entry))) count o ⌝ }
+// The leader of a long list, from its first entry as the leader on; no entry farther than the seed needs a look.
+fn leader_of(oklab: &[f32], count: usize, o: Oklab, seed: usize, start: Leader) -> Leader
+    requires { ⌜ (seed < count) × (3 * count ≤ length (now oklab)) ⌝ }
+    ensures { λ r. ⌜ Onward (distances o (oklabAt (now (oklab .entry)))) (distances o (oklabAt (now (oklab .entry))) seed) 0 count start r ⌝ }
 {
-    let mut best = 0;
-    let mut d = distance_to(oklab, 0, o);
-    let mut i = 1;
-    while i < count {
-        let x = distance_to(oklab, i, o);
-        if x < d {
-            best = i;
-            d = x;
-        }
-        i += 1;
-    }
-    best
-}
-
-// The nearest of a list, from a seed on.
-fn nearest_by_eight(oklab: &[f32], count: usize, o: Oklab, seed: usize) -> usize
-    requires { ⌜ RangedList (now oklab) count × T (allInRange o) × (seed < count) ⌝ }
-    ensures { λ r. ⌜ r ≡ nearestIn (oklabAt (now (oklab .entry))) count o ⌝ }
-{
-    let d = distance_to(oklab, seed, o);
-    let mut leader = Leader {
-        position: seed,
-        distance: d,
-    };
+    let reach = distance_to(oklab, seed, o);
+    let mut leader = start;
     let mut k = 0;
     while 8 <= count - k {
-        leader = leader_by_eight(oklab, o, k, leader);
+        leader = leader_by_eight(oklab, o, reach, k, leader);
         k += 8;
     }
-    let last = leader_by_one(oklab, o, k, count, leader);
-    last.position
+    leader_by_one(oklab, o, k, count, leader)
 }
 
-// The position of the smallest distance, the first of equals. The search begins at the seed, which changes nothing but the
-// time. No public call: the caller sees to the list, the range and the seed.
+// The position of the smallest distance, the first of equals. The seed is an entry that is likely near; which one it is
+// changes nothing but the time. No public call: the caller sees to the list, the range and the seed.
 pub fn nearest_position(oklab: &[f32], count: usize, o: Oklab, seed: usize) -> usize
     requires { ⌜ RangedList (now oklab) count × T (allInRange o) × (seed < count) ⌝ }
     ensures { λ r. ⌜ r ≡ nearestIn (oklabAt (now (oklab .entry))) count o ⌝ }
 {
+    let d = distance_to(oklab, 0, o);
+    let start = Leader {
+        position: 0,
+        distance: d,
+    };
     if count < 32 {
-        return nearest_by_one(oklab, count, o);
+        let short = leader_by_one(oklab, o, 0, count, start);
+        return short.position;
     }
-    nearest_by_eight(oklab, count, o, seed)
+    let long = leader_of(oklab, count, o, seed, start);
+    long.position
 }

@@ -1,10 +1,14 @@
 -- `remembered::keep` meets its contract: one word more, if the pair has a number. Assumes nothing.
-use mathlib.Core.Path.{sym, subst, _∙_}
-use Prim.Native.Nat.{ℕ, _+_, _*_}
+use mathlib.Core.Path.{_≡_, sym, subst, _∙_}
+use Prim.Native.Nat.{ℕ, _+_, _*_, _<_}
+use native.Mathlib.Omega.{arith}
 use lib.ListN.{set}
 use Rattle.mixing.specs.Lerp.{Bytes}
-use Rattle.remembered.specs.Table.{Kept}
+use Rattle.color.specs.declared.NormalizedColor.{NormalizedColor}
+use Rattle.lookup.specs.declared.Two.{Two}
+use Rattle.remembered.specs.Table.{Kept, ByRgb}
 use Rattle.remembered.proofs.TableLaws.{kept-more}
+use Rattle.remembered.proofs.ShortLaws.{shorts-table}
 use borrow.Author.Needs.{needs}
 use Rattle.remembered.proofs.keep.Statement.{statement}
 use Rattle.remembered.proofs.keep.Tie as tie
@@ -33,17 +37,18 @@ mul-memory-2 c = search needs
 element-write-memory : tie.Need-element-write-memory
 element-write-memory c = search needs
 
-returns : tie.Need-returns
-returns c =
-    let k = c .before .before .before .key-of in
+stored : (c : tie.After-place-of) (f : NormalizedColor → Two) → ByRgb f → c .before .before .before .before .args .pair ≡ f (c .before .before .before .before .args .c) → Kept f (c .before .before .before .before .args .memory .now)
+    → Kept f (set (c .before .before .before .before .args .memory .now) (c .place-of .result) (c .before .before .before .key-of .result * 68719476736 + c .before .before .number-of .result))
+stored c f by e kept =
     let x = c .before .before .number-of in
-    let start = c .before .before .before .before in
-    λ f by e kept.
-    subst (λ (key : ℕ). Kept f (set (start .args .memory .now) (c .place-of .result) (key * 68719476736 + x .result))) (sym (k .ensures .0))
-    (kept-more f _ kept by _ _ _ (bytes start) (c .place-of .ensures) (c .before .if1 .taken) (x .ensures (c .before .if1 .taken) ∙ e))
+    subst (λ (key : ℕ). Kept f (set (c .before .before .before .before .args .memory .now) (c .place-of .result) (key * 68719476736 + x .result))) (sym (c .before .before .before .key-of .ensures .0))
+    (kept-more f _ kept by _ _ _ (bytes (c .before .before .before .before)) (c .place-of .ensures) (c .before .if1 .taken) (x .ensures (c .before .if1 .taken) ∙ e))
+
+returns : tie.Need-returns
+returns c = let j : c .place-of .result < 257 = omega (arith, c .place-of .ensures) in (stored c, λ g shorts. shorts-table g _ shorts _ _ j)
 
 returns-2 : tie.Need-returns-2
-returns-2 c = search needs
+returns-2 c = (λ f by e kept. kept, λ g shorts. shorts)
 
 pub keep-spec : {M : Type 1} → statement M
 keep-spec =

@@ -41,14 +41,14 @@ kept : (c : tie.After-keep) → Kept (nearestAlone (oklabAt (start c .args .okla
 unfolding nearestAlone
 kept c =
     let s = start c in
-    c .keep .ensures _ (alone-by-rgb (oklabAt (s .args .oklab .now)) (s .args .count))
+    c .keep .ensures .0 _ (alone-by-rgb (oklabAt (s .args .oklab .now)) (s .args .count))
     (λ q. record { first = c .before .before .nearest-anew .ensures q; second = Nothing }) (s .pre .3)
 
 note-last-requires : tie.Need-note-last-requires
 note-last-requires c κs = kept (c .before) .room
 
 returns-2 : tie.Need-returns-2
-returns-2 c = (c .before .before .before .before .nearest-anew .ensures, c .note-last .ensures _ (kept (c .before .before)))
+returns-2 c = (c .before .before .before .before .nearest-anew .ensures, c .note-last .ensures .0 _ (kept (c .before .before)))
 
 pub nearest-position-spec : {M : Type 1} → statement M
 nearest-position-spec =

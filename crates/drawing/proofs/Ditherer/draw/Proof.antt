@@ -3,6 +3,7 @@ use mathlib.Core.Path.{sym, _∙_}
 use Rattle.drawing.specs.Lent.{lent, drawingOf}
 use Rattle.drawing.proofs.TurnLaws.{turn-end, turn-none}
 use Rattle.remembered.proofs.TableLaws.{kept-none}
+use Rattle.drawing.proofs.StepLaws.{remembers-none}
 use borrow.Author.Needs.{needs}
 use Rattle.drawing.proofs.Ditherer.draw.Statement.{statement}
 use Rattle.drawing.proofs.Ditherer.draw.Tie as tie
@@ -22,7 +23,7 @@ draw-diffused-requires c κs =
 draw-each-requires : tie.Need-draw-each-requires
 draw-each-requires c κs =
     let p = c .before .before .before .before .before .before .before .before .before .before .before .before .before .pre in
-    (record { is = c .before .before .before .before .before .linear-table .ensures }, p .0, sym (c .before .before .before .before .is-diffusion .ensures) ∙ c .before .before .before .if1 .left, p .1, kept-none _)
+    (record { is = c .before .before .before .before .before .linear-table .ensures }, p .0, sym (c .before .before .before .before .is-diffusion .ensures) ∙ c .before .before .before .if1 .left, p .1, remembers-none (c .before .before .before .before .before .before .before .before .before .before .before .before .before .args .self) _)
 
 same-length : tie.Need-same-length
 same-length c = search needs

@@ -5,8 +5,7 @@ use native.Mathlib.Omega.{arith}
 use borrow.Author.Needs.{needs}
 use Rattle.lists.proofs.FillLaws.{Filling, fill-begin}
 use Rattle.shortlist.specs.Candidates.{scaled}
-use Rattle.remembered.specs.Table.{Kept}
-use Rattle.drawing.specs.Turns.{answersOf}
+use Rattle.drawing.specs.Turns.{Remembers}
 use Rattle.drawing.specs.Lent.{lent, drawingOf, pixelBytes}
 use Rattle.drawing.proofs.OutputLaws.{out-more, out-all}
 use Rattle.drawing.proofs.Ditherer.draw_each.Statement.{statement}
@@ -15,7 +14,7 @@ use Rattle.drawing.proofs.Ditherer.draw_each.Tie as tie
 abbrev Inv-loop : tie.InvT-loop
 Inv-loop self zero linear reduction scale pixels colors oklab count memory₀ out₀ size i₀ memory out i =
     Filling 4 (pixelBytes (drawingOf self zero (lent reduction scale pixels colors oklab count))) out₀ out i
-    × Kept (answersOf self (scaled colors scale oklab count)) memory
+    × Remembers self (scaled colors scale oklab count) memory
 
 abbrev μ-loop : tie.MeasureT-loop
 μ-loop self zero linear reduction scale pixels colors oklab count memory₀ out₀ size i₀ memory out i = size - i

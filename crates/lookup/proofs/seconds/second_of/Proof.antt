@@ -13,8 +13,8 @@ best-of-requires c κs = search needs
 
 returns : tie.Need-returns
 returns c =
-    let b = c .before .best-of in
-    let s = c .before .before .before .before in
+    let b = c .before .before .best-of in
+    let s = c .before .before .before .before .before in
     let a = s .args in
     let n = normals (a .colors .now) (a .scale .now) in
     let e = mixError n (a .a) (a .color) in
@@ -26,8 +26,8 @@ element-copy-out-t11 c = search needs
 
 returns-2 : tie.Need-returns-2
 returns-2 c =
-    let b = c .before .before .before .best-of in
-    let s = c .before .before .before .before .before .before in
+    let b = c .before .before .before .before .best-of in
+    let s = c .before .before .before .before .before .before .before in
     let a = s .args in
     let n = normals (a .colors .now) (a .scale .now) in
     let e = mixError n (a .a) (a .color) in
@@ -36,8 +36,8 @@ returns-2 c =
 
 returns-3 : tie.Need-returns-3
 returns-3 c =
-    let b = c .before .before .best-of in
-    let s = c .before .before .before .before .before in
+    let b = c .before .before .before .best-of in
+    let s = c .before .before .before .before .before .before in
     let a = s .args in
     let n = normals (a .colors .now) (a .scale .now) in
     let e = mixError n (a .a) (a .color) in

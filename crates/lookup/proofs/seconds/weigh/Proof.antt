@@ -1,5 +1,5 @@
--- `seconds::weigh` meets its contract: by whether the share is from 0 to 1. Assumes nothing.
-use Rattle.lookup.proofs.SecondLaws.{weighed-in, weighed-out}
+-- `seconds::weigh` meets its contract: by what its four calls ensure. Assumes nothing.
+use Rattle.lookup.proofs.SecondLaws.{weighed-is}
 use borrow.Author.Needs.{needs}
 use Rattle.lookup.proofs.seconds.weigh.Statement.{statement}
 use Rattle.lookup.proofs.seconds.weigh.Tie as tie
@@ -18,25 +18,13 @@ improve-requires c κs = search needs
 
 returns : tie.Need-returns
 returns c =
-    let a = c .before .before .before .before .before .args in
-    let t = c .before .before .before .before .lerp in
-    let s = c .before .before .before .is-share in
-    weighed-in (a .best) (c .improve .result) (a .k) (a .a) (a .b) (a .color) (t .result) (s .result) (t .ensures) (s .ensures) (c .before .mix-residual .result) (c .before .before .if1 .taken) (c .before .mix-residual .ensures) (c .improve .ensures)
-
-returns-2 : tie.Need-returns-2
-returns-2 c =
-    let a = c .before .before .before .args in
-    let t = c .before .before .lerp in
-    let s = c .before .is-share in
-    weighed-out (a .best) (a .best) (a .k) (a .a) (a .b) (a .color) (t .result) (s .result) (t .ensures) (s .ensures) (c .if1 .left)
+    let a = c .before .before .before .before .args in
+    let t = c .before .before .before .lerp in
+    let s = c .before .before .is-share in
+    let x = c .before .mix-residual in
+    weighed-is (a .best) (c .improve .result) (a .k) (a .a) (a .b) (a .color) (t .result) (s .result) (x .result) (t .ensures) (s .ensures) (x .ensures) (c .improve .ensures)
 
 pub weigh-spec : {M : Type 1} → statement M
 weigh-spec =
     tie.close
-    (tie.spec
-    lerp-requires
-    is-share-requires
-    mix-residual-requires
-    improve-requires
-    returns
-    returns-2)
+    (tie.spec lerp-requires is-share-requires mix-residual-requires improve-requires returns)

@@ -6,14 +6,18 @@ use borrow.Author.Needs.{needs}
 use Rattle.shortlist.proofs.near.leader_by_eight.Statement.{statement}
 use Rattle.shortlist.proofs.near.leader_by_eight.Tie as tie
 
+lesser-requires : tie.Need-lesser-requires
+lesser-requires c κs = search needs
+
 eight-farther-requires : tie.Need-eight-farther-requires
 eight-farther-requires c κs = search needs
 
 returns : tie.Need-returns
 returns c =
-    let a = c .before .before .before .args in
+    let a = c .before .before .before .before .args in
+    let l = c .before .before .lesser in
     let e = c .before .eight-farther in
-    lead-past (distances (a .o) (oklabAt (a .oklab .now))) (a .leader) (a .k) 8 (e .result) (e .ensures) (c .if1 .taken)
+    lead-past (distances (a .o) (oklabAt (a .oklab .now))) (a .reach) (a .leader) (a .k) 8 (l .result) (e .result) (l .ensures) (e .ensures) (c .if1 .taken)
 
 add-leader-by-one : tie.Need-add-leader-by-one
 add-leader-by-one c = search needs
@@ -22,9 +26,9 @@ leader-by-one-requires : tie.Need-leader-by-one-requires
 leader-by-one-requires c κs = search needs
 
 returns-2 : tie.Need-returns-2
-returns-2 c = search needs
+returns-2 c = c .leader-by-one .ensures (c .before .before .before .before .before .args .reach)
 
 pub leader-by-eight-spec : {M : Type 1} → statement M
 leader-by-eight-spec =
     tie.close
-    (tie.spec eight-farther-requires returns add-leader-by-one leader-by-one-requires returns-2)
+    (tie.spec lesser-requires eight-farther-requires returns add-leader-by-one leader-by-one-requires returns-2)
