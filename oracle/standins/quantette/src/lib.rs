@@ -11,6 +11,8 @@ use std::cell::{Cell, RefCell};
 pub enum Conversion {
     /// Document 01's whole numbers, remembered.
     Exact,
+    /// Document 01's whole numbers, worked out for each colour.
+    ExactAnew,
     /// The published definition in f64, rounded to f32 at the end.
     PublishedF64,
     /// The published definition in f32 throughout, with a table of linear values.
@@ -54,6 +56,7 @@ pub fn remembered(r: u8, g: u8, b: u8) -> [f32; 3] {
 fn convert(r: u8, g: u8, b: u8) -> [f32; 3] {
     match ANSWERING.get() {
         Conversion::Exact => remembered(r, g, b),
+        Conversion::ExactAnew => exact::to_oklab(r, g, b),
         Conversion::PublishedF64 => published::to_oklab_f64(r, g, b),
         Conversion::PublishedF32 => published::to_oklab_f32(r, g, b),
     }

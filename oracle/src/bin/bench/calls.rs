@@ -1,0 +1,88 @@
+//! The calls that are measured: for each the original and the port, ready to be
+//! run over the same picture again and again.
+
+use std::hint::black_box;
+
+use oracle::archive::Archive;
+use oracle::case::{Candidates, Quantize, ToMode};
+use oracle::port::{Port, Rooms};
+
+use crate::color::{ReducedColor, Rgba8888};
+use crate::dither::{self, Dither};
+use crate::mode::Mode;
+use crate::mode::color::ColorRounding;
+use crate::subject::Subject;
+
+/// A kind by document 01's number, the original's and our name.
+pub type Kind = (u32, Dither, &'static str);
+
+pub const OFF: Kind = (0, Dither::Off, "Off");
+pub const BAYER: Kind = (3, Dither::Bayer8x8, "Bayer 8x8");
+pub const ATKINSON: Kind = (9, Dither::Atkinson, "Atkinson");
+pub const FLOYD_STEINBERG: Kind = (10, Dither::FloydSteinberg, "Floyd-Steinberg");
+
+/// Cells lent for a kind: three a pixel for diffusion, else none.
+fn cells(kind: u32, count: usize) -> Vec<f32> {
+    vec![0.0; if kind >= 9 { 3 * count } else { 0 }]
+}
+
+pub fn quantize_pixels<'a>(
+    port: &'a Archive,
+    subject: &'a Subject,
+    palette: &'a [u8],
+    (kind, dither, _): Kind,
+) -> (impl Fn() + 'a, impl FnMut() + 'a) {
+    let reduced: Vec<ReducedColor> =
+        palette.chunks_exact(4).map(|c| ReducedColor(Rgba8888::from_bytes(c.try_into().unwrap()))).collect();
+    let (width, height, count) = (subject.width, subject.height, subject.count());
+    let original = move || {
+        let color_at = |i: usize| subject.colors[i];
+        let rounding = ColorRounding::Truncate;
+        black_box(dither::quantize_pixels(Mode::Snes, &reduced, width, height, dither, rounding, color_at));
+    };
+    let case = Quantize { shift: 3, kind, width, height, ..Quantize::default() };
+    let (mut indices, mut out, mut cells) = (vec![0; count], vec![0; 4 * count], cells(kind, count));
+    let ported = move || {
+        let number = port.quantize_pixels(&case, subject.read(palette), &mut indices, &mut out, &mut cells);
+        assert_eq!(number, 0);
+    };
+    (original, ported)
+}
+
+/// With tiles of 8x8 and limit 256, so that no tile is over it.
+pub fn dither_to_mode<'a>(
+    port: &'a Archive,
+    subject: &'a Subject,
+    (kind, dither, _): Kind,
+) -> (impl Fn() + 'a, impl FnMut() + 'a) {
+    let (count, found, image) = (subject.count(), subject.candidates(), subject.image());
+    let original = move || {
+        let budget = dither::TileBudget { width: 8, height: 8, max_colors: 256 };
+        let drawn = dither::dither_to_mode(&image, Mode::Snes, dither, ColorRounding::Truncate, None, budget);
+        assert!(black_box(drawn).is_some());
+    };
+    let (width, height) = (subject.width, subject.height);
+    let case = ToMode { shift: 3, kind, width, height, tile: [8, 8], limit: 256, ..ToMode::default() };
+    let (mut places, mut oklab, mut out) = (vec![0; 4 * found], vec![0.0; 3 * found], vec![0; 4 * count]);
+    let mut cells = cells(kind, count);
+    let ported = move || {
+        let rooms = Rooms { places: &mut places, oklab: &mut oklab, out: &mut out, cells: &mut cells };
+        let number = port.dither_to_mode(&case, subject.read(&[]), rooms, &mut 0, &mut 0);
+        assert_eq!(number, 0);
+    };
+    (original, ported)
+}
+
+pub fn candidate_colors_in<'a>(port: &'a Archive, subject: &'a Subject) -> (impl Fn() + 'a, impl FnMut() + 'a) {
+    let (found, image) = (subject.candidates(), subject.image());
+    let original = move || {
+        black_box(dither::candidate_colors_in(&image, Mode::Snes, ColorRounding::Truncate));
+    };
+    let case = Candidates { shift: 3, width: subject.width, height: subject.height, ..Candidates::default() };
+    let (mut places, mut oklab) = (vec![0; 4 * found], vec![0.0; 3 * found]);
+    let ported = move || {
+        let number = port.candidate_colors_in(&case, subject.read(&[]), &mut places, &mut oklab, &mut 0);
+        assert_eq!(number, 0);
+    };
+    (original, ported)
+}

@@ -1,0 +1,128 @@
+//! The pictures that are measured, and palettes for them.
+
+use oracle::case::LentTables;
+use oracle::original::own_tables;
+use oracle::port::Read;
+use oracle::rng::Rng;
+
+use crate::color::{NormalizedColor, Rgba8888};
+use crate::dither;
+use crate::image::Image;
+use crate::mode::Mode;
+use crate::mode::color::ColorRounding;
+
+/// A picture and the tables it is drawn with.
+pub struct Subject {
+    pub width: u32,
+    pub height: u32,
+    pub pixels: Vec<u8>,
+    pub colors: Vec<NormalizedColor>,
+    tables: LentTables,
+}
+
+fn normalized(bytes: &[u8]) -> NormalizedColor {
+    NormalizedColor(Rgba8888::from_bytes(bytes.try_into().unwrap()))
+}
+
+impl Subject {
+    fn new(width: u32, height: u32, pixels: Vec<u8>) -> Subject {
+        let own = own_tables(3, false);
+        let tables = LentTables { reduction: own.reduction.to_vec(), scale: own.scale.to_vec() };
+        Subject { width, height, colors: pixels.chunks_exact(4).map(normalized).collect(), pixels, tables }
+    }
+
+    /// Noise over a range, around a gradient: like a photograph, with most of
+    /// its colours different. A wider range has more reduced colours.
+    pub fn photo(side: u32, range: u64, seed: u64) -> Subject {
+        let mut rng = Rng::new(seed);
+        let mut pixels = Vec::new();
+        for i in 0..side * side {
+            let (x, y) = (i % side * 256 / side, i / side * 256 / side);
+            for level in [x, y, 255 - (x + y) / 2] {
+                let spread = u64::from(level) * (256 - range) / 256 + rng.below(range);
+                pixels.push(spread.min(255) as u8);
+            }
+            pixels.push(255);
+        }
+        Subject::new(side, side, pixels)
+    }
+
+    /// A picture of few colours.
+    pub fn few(side: u32, count: usize) -> Subject {
+        let mut rng = Rng::new(4);
+        let pool: Vec<[u8; 4]> = (0..count).map(|_| [rng.byte(), rng.byte(), rng.byte(), 255]).collect();
+        let pixels = (0..side * side).flat_map(|_| rng.pick(&pool)).collect();
+        Subject::new(side, side, pixels)
+    }
+
+    /// Smooth colours of little range, so that there are some hundred candidates.
+    pub fn smooth(side: u32) -> Subject {
+        let pixels = (0..side * side).flat_map(|i| {
+            let (x, y) = (i % side * 128 / side, i / side * 128 / side);
+            [(64 + x) as u8, (64 + y) as u8, (96 + (x + y) / 4) as u8, 255]
+        });
+        Subject::new(side, side, pixels.collect())
+    }
+
+    /// No colour twice, so that no answer can be remembered.
+    pub fn different(side: u32) -> Subject {
+        let pixels = (0..side * side).flat_map(|i| {
+            // An odd factor reaches each of the 2^24 colours once.
+            let [_, r, g, b] = i.wrapping_mul(0x9e_3779).to_be_bytes();
+            [r, g, b, 255]
+        });
+        Subject::new(side, side, pixels.collect())
+    }
+
+    /// A picture of 128x64 with no colour twice and just `count` candidates (a
+    /// power of two from 16 to 8192), in no order: 512 colours of eight bits a
+    /// channel reduce to each of five.
+    pub fn of_candidates(count: u32) -> Subject {
+        let mut rng = Rng::new(7);
+        let mut pixels: Vec<[u8; 4]> = (0..8192 / count)
+            .flat_map(|low| {
+                (0..count).map(move |k| {
+                    // An odd factor spreads them over the 2^15 reduced colours.
+                    let high = k * 20_077;
+                    let byte = |shift: u32| ((high >> (5 * shift) & 31) << 3 | low >> (3 * shift) & 7) as u8;
+                    [byte(2), byte(1), byte(0), 255]
+                })
+            })
+            .collect();
+        for last in (1..pixels.len()).rev() {
+            pixels.swap(last, rng.below(last as u64 + 1) as usize);
+        }
+        Subject::new(128, 64, pixels.concat())
+    }
+
+    pub fn count(&self) -> usize {
+        self.colors.len()
+    }
+
+    pub fn read<'a>(&'a self, palette: &'a [u8]) -> Read<'a> {
+        Read { reduction: &self.tables.reduction, scale: &self.tables.scale, palette, pixels: &self.pixels }
+    }
+
+    pub fn image(&self) -> Image {
+        Image {
+            width: self.width,
+            height: self.height,
+            src_x: 0,
+            src_y: 0,
+            data: self.colors.clone(),
+            indexed_data: Vec::new(),
+            palette: Vec::new(),
+            colors: Default::default(),
+        }
+    }
+
+    pub fn candidates(&self) -> usize {
+        dither::candidate_colors_in(&self.image(), Mode::Snes, ColorRounding::Truncate).len()
+    }
+}
+
+/// Random entries of five bits a channel.
+pub fn palette(entries: usize) -> Vec<u8> {
+    let mut rng = Rng::new(3);
+    (0..entries).flat_map(|_| [rng.byte() & 31, rng.byte() & 31, rng.byte() & 31, 255]).collect()
+}
