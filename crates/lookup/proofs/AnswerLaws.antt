@@ -37,7 +37,7 @@ module _ {A : Type 0} (refusal : ℕ → A) where
   granted : (n r : ℕ) (given result : A) → r ≡ n → r ≡ 0 → given ≡ result → given ≡ after n result (refusal n)
   granted n r given result e z g = g ∙ after-accepted n result (refusal n) (sym e ∙ z)
 
-  numbered : (number : A → ℕ) (n : ℕ) (result : A) → number result ≡ 0 → ((m : ℕ) → number (refusal m) ≡ m) → number (after n result (refusal n)) ≡ n
+  pub numbered : (number : A → ℕ) (n : ℕ) (result : A) → number result ≡ 0 → ((m : ℕ) → number (refusal m) ≡ m) → number (after n result (refusal n)) ≡ n
   numbered number zero result e h = e
   numbered number (suc n) result e h = h (suc n)
 

@@ -50,7 +50,7 @@ fitting r n o e =
     let b = and-split (eqb n r) (eqb o (3 * (r / 4))) (a .1) in
     (eqb-true (r % 4) 0 (a .0), eqb-true n r (b .0), eqb-true o (3 * (r / 4)) (b .1))
 
-counted : (n : ℕ) → countFits n ≡ true → (0 < n) × (n ≤ 65536)
+pub counted : (n : ℕ) → countFits n ≡ true → (0 < n) × (n ≤ 65536)
 unfolding countFits
 counted n e = let a = and-split (ltb 0 n) (not (ltb 65536 n)) e in (ltb-true 0 n (a .0), ltb-false 65536 n (not-true (ltb 65536 n) (a .1)))
 

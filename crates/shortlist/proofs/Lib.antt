@@ -1,7 +1,7 @@
 -- The laws of `shortlist`.
 pub mod NearestLaws
 mod LeaderLaws
-mod PlaceLaws
+pub mod PlaceLaws
 mod InsertLaws
 pub mod RankedLaws
 pub mod ArrayLaws

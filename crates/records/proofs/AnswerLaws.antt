@@ -1,0 +1,283 @@
+-- The answers over records: the number of an answer is that of the list, the lowest that applies; what `chosen` answers after its pass; the short list
+-- is accepted and gives the answers of the whole list; what `joined`, `two_of` and `bracket_of` make of it. Assumes nothing.
+use mathlib.Core.Path.{_≡_, refl, sym, ap, _∙_, subst}
+use mathlib.Core.List.{List, _∷_, map}
+use mathlib.Core.Bool.{Bool}
+use Prim.Native.Nat.{ℕ, suc, _+_, _*_, _/_, _≤_, _<_}
+use native.Mathlib.Numerals.{add-one}
+use native.Mathlib.Omega.{arith}
+use borrow.Author.Tests.{lt-ltb, le-ltb}
+use lib.Dec.{T}
+use lib.ListN.{length, getD, take, length-take, List·getD-eq-default, List·getD-map}
+use lib.Seq.{length-take-le}
+use lib.Ieee.{Float}
+use Rattle.lists.proofs.Bools.{is-true}
+use Rattle.lists.specs.Lowest.{Lowest, after}
+use Rattle.lists.proofs.LowestLaws.{lowest-is, after-accepted, after-refused}
+use Rattle.color.specs.declared.CandidateColor.{CandidateColor}
+use Rattle.color.specs.declared.NormalizedColor.{NormalizedColor}
+use Rattle.color.specs.declared.Oklab.{Oklab}
+use Rattle.color.specs.Oklab.{allInRange}
+use Rattle.conversion.specs.Oklab.{toOklab}
+use Rattle.mixing.specs.Widths.{clampWidth}
+use Rattle.shortlist.specs.Candidates.{Candidates, flat}
+use Rattle.shortlist.specs.Nearest.{distances, nearestOf}
+use Rattle.shortlist.specs.Shortlist.{ranked, shortlistOf}
+use Rattle.shortlist.proofs.NearestLaws.{nearest-inside}
+use Rattle.lookup.specs.declared.Two.{Two}
+use Rattle.lookup.specs.declared.FoundTwo.{FoundTwo}
+use Rattle.lookup.specs.declared.FoundTwo.the-variants as two
+use Rattle.lookup.specs.declared.FoundBracket.{FoundBracket}
+use Rattle.lookup.specs.declared.Second.{Second}
+use Rattle.lookup.specs.declared.Second.the-variants.{At, Nothing}
+use Rattle.lookup.specs.declared.FoundBracket.the-variants as bracket
+use Rattle.lookup.specs.Lists.{countFits, listNumber}
+use Rattle.lookup.specs.Second.{nearestTwoOf}
+use Rattle.lookup.specs.Bracket.{bracketOf}
+use Rattle.lookup.specs.Answers.{nearestTwoAnswer, bracketAnswer, numberOfTwo, numberOfBracket}
+use Rattle.lookup.proofs.AnswerLaws as Flat
+use Rattle.lookup.proofs.ListLaws as Flat′
+use Rattle.lookup.proofs.TwoLaws.{first-entry, second-entry}
+use Rattle.records.specs.declared.passes.Kept.{Kept}
+use Rattle.records.specs.declared.passes.Pass.{Pass}
+use Rattle.records.specs.declared.shorts.Short.{Short}
+use Rattle.records.specs.declared.FoundRecord.the-variants as one
+use Rattle.records.specs.declared.FoundRecords.{FoundRecords}
+use Rattle.records.specs.declared.FoundRecords.the-variants as both
+use Rattle.records.specs.Lists.{noRecord, recordAt, candidatesOf, rangedTo, recordReplies, numberBy, recordsNumber}
+use Rattle.records.specs.Answers.{recordsAt, foundTwoIn, nearestRecord, nearestTwoRecords, recordsBracket, numberOfRecord, numberOfRecords}
+use Rattle.records.specs.Keeping.{farOf, entryOf, Passed, shortOf, shortRecords, inLine, LaidIn, recordIn, Shortened}
+use Rattle.records.proofs.ListLaws.{Accepted, accepted, all-ranged}
+use Rattle.records.proofs.MapLaws.{map-take, map-map, length-map}
+use Rattle.records.proofs.KeepingLaws.{noEntry, nearest-kept}
+use Rattle.records.proofs.FlatLaws.{laid-record}
+use Rattle.records.proofs.AgreeLaws.{two-agrees, bracket-agrees}
+use Rattle.records.proofs.ShortLaws.{renamed, standing, shortened, standing-inside, first-short, second-short, bracket-short}
+
+-- ---- the number of a list is the lowest that applies
+pub number-lowest : (list : List CandidateColor) → Lowest (recordReplies (length list) (rangedTo list (length list))) (recordsNumber list)
+unfolding numberBy
+number-lowest list = lowest-is (recordReplies (length list) (rangedTo list (length list))) tt
+
+-- and it is what `refusal` says after a pass
+pub number-is : (list : List CandidateColor) (len : ℕ) (ranged : Bool) (r : ℕ) → len ≡ length list → ranged ≡ rangedTo list (length list) → r ≡ numberBy len ranged → r ≡ recordsNumber list
+number-is list len ranged r e f g = g ∙ (λ i. numberBy (e i) (f i))
+
+-- a list of so many records in range
+number-none : (list : List CandidateColor) → 0 < length list → length list ≤ 65536 → T (rangedTo list (length list)) → recordsNumber list ≡ 0
+unfolding numberBy countFits
+number-none list h l r = rw (lt-ltb 0 (length list) h, le-ltb 65536 (length list) l, is-true (rangedTo list (length list)) r)
+
+after-accepted′ : {A : Type 0} (n : ℕ) (x y : A) → n ≡ 0 → after n x y ≡ x
+after-accepted′ n x y e = sym (after-accepted n x y e)
+
+-- ---- an answer's number is that of the list
+module _ (list : List CandidateColor) (color : NormalizedColor) where
+  pub nearest-number : numberOfRecord (nearestRecord list color) ≡ recordsNumber list
+  unfolding nearestRecord
+  nearest-number = Flat.numbered one.Refused numberOfRecord (recordsNumber list) _ refl (λ m. refl)
+
+  module _ (width : ℕ) where
+    pub nearest-two-number : numberOfRecords (nearestTwoRecords list color width) ≡ recordsNumber list
+    unfolding nearestTwoRecords
+    nearest-two-number = let t = nearestTwoOf (candidatesOf list) width (toOklab color) color in Flat.numbered both.Refused numberOfRecords (recordsNumber list) _ (no (t .first) (t .second)) (λ m. refl)
+      where
+        no : (a : ℕ) (s : Second) → numberOfRecords (recordsAt list a s) ≡ 0
+        no a Nothing = refl
+        no a (At b) = refl
+
+    pub bracket-number : numberOfBracket (recordsBracket list color width) ≡ recordsNumber list
+    unfolding recordsBracket
+    bracket-number = Flat.numbered bracket.Refused numberOfBracket (recordsNumber list) _ refl (λ m. refl)
+
+-- ---- what `chosen` answers
+module _ (list : List CandidateColor) (color : NormalizedColor) (len : ℕ) (near : Pass) (e : len ≡ length list) (P : Passed list (toOklab color) (length list) 1 (length list) near)
+    (r : ℕ) (g : r ≡ numberBy len (near .ranged)) where
+  number : r ≡ recordsNumber list
+  number = number-is list len (near .ranged) r e (P .ranged) g
+
+  pub nearest-refused : (r ≡ 0 → ⊥) → one.Refused r ≡ nearestRecord list color
+  unfolding nearestRecord
+  nearest-refused h = ap one.Refused number ∙ after-refused (recordsNumber list) _ (one.Refused (recordsNumber list)) (λ z. h (number ∙ z))
+
+  pub nearest-granted : T (allInRange (toOklab color)) → r ≡ 0 → one.Chosen (getD (near .kept) 0 noEntry .color) ≡ nearestRecord list color
+  unfolding nearestRecord
+  nearest-granted O z =
+      let A = accepted list (sym number ∙ z) in
+      ap (λ (x : Kept). one.Chosen (x .color)) (nearest-kept list (toOklab color) near P O (A .positive) (A .ranged)) ∙ after-accepted (recordsNumber list) _ (one.Refused (recordsNumber list)) (sym number ∙ z)
+
+-- ---- the short list
+module _ (list : List CandidateColor) (color : NormalizedColor) (width : ℕ) (A : Accepted list) (O : T (allInRange (toOklab color))) where
+  abbrev cs : Candidates
+  cs = candidatesOf list
+
+  abbrev o : Oklab
+  o = toOklab color
+
+  abbrev ps : List ℕ
+  ps = shortOf cs width o
+
+  abbrev short : List CandidateColor
+  short = shortRecords list width color
+
+  abbrev g : ℕ → ℕ
+  g = standing cs width o
+
+  -- the record at a place is the one that stands there
+  short-at : (k : ℕ) → recordAt short k ≡ recordAt list (g k)
+  short-at k = ap (λ (z : CandidateColor). getD (map (recordAt list) ps) k z) (sym (List·getD-eq-default list noRecord {n = length list} (omega arith))) ∙ List·getD-map (recordAt list) ps k (length list)
+
+  short-is : candidatesOf short ≡ shortened cs width o
+  short-is = λ i. record { count = length-map (recordAt list) ps i; reduced = λ k. short-at k i .reduced; normalized = λ k. short-at k i .normalized; oklab = λ k. short-at k i .oklab }
+
+  -- it is accepted
+  short-long : (0 < length short) × (length short ≤ 17)
+  short-long =
+      let l = length-map (recordAt list) ps in
+      let t = length-take (clampWidth width) (ranked (distances (cs .oklab (nearestOf cs o)) (cs .oklab)) (nearestOf cs o) (cs .count)) in
+      (omega (arith, l), omega (arith, l, t))
+
+  short-ranged : T (rangedTo short (length short))
+  short-ranged = all-ranged short (length short) (λ k l.
+      subst (λ (x : CandidateColor). T (allInRange (x .oklab))) (sym (short-at k))
+      (A .range (g k) (standing-inside cs width o color (A .positive) (A .range) O k (subst (λ (m : ℕ). k < m) (length-map (recordAt list) ps) l))))
+
+  pub short-accepted : recordsNumber short ≡ 0
+  short-accepted = number-none short (short-long .0) (omega (arith, short-long .1)) short-ranged
+
+  -- and gives the same answers
+  records-same : (a : ℕ) (s : Second) → recordsAt list (g a) (renamed g s) ≡ recordsAt short a s
+  records-same a Nothing = λ i. both.One (sym (short-at a) i)
+  records-same a (At b) = λ i. both.Two (sym (short-at a) i) (sym (short-at b) i)
+
+  pub two-short : recordsNumber list ≡ 0 → nearestTwoRecords short color width ≡ nearestTwoRecords list color width
+  unfolding nearestTwoRecords nearestTwoOf
+  two-short z =
+      after-accepted′ (recordsNumber short) _ (both.Refused (recordsNumber short)) short-accepted
+      ∙ (λ i. recordsAt short (nearestTwoOf (short-is i) width o color .first) (nearestTwoOf (short-is i) width o color .second))
+      ∙ sym (records-same (nearestTwoOf (shortened cs width o) width o color .first) (nearestTwoOf (shortened cs width o) width o color .second))
+      ∙ (λ i. recordsAt list (sym (first-short cs width o color (A .positive) (A .range) O) i) (sym (second-short cs width o color (A .positive) (A .range) O) i))
+      ∙ after-accepted (recordsNumber list) _ (both.Refused (recordsNumber list)) z
+
+  pub bracket-same : recordsNumber list ≡ 0 → recordsBracket short color width ≡ recordsBracket list color width
+  unfolding recordsBracket
+  bracket-same z =
+      after-accepted′ (recordsNumber short) _ (bracket.Refused (recordsNumber short)) short-accepted
+      ∙ ap (λ (x : Candidates). bracket.Of (bracketOf x width o color)) short-is
+      ∙ ap bracket.Of (sym (bracket-short cs width o color (A .positive) (A .range) O))
+      ∙ after-accepted (recordsNumber list) _ (bracket.Refused (recordsNumber list)) z
+
+-- ---- the short list after the two passes
+pub joined-is : (list : List CandidateColor) (color : NormalizedColor) (width len : ℕ) (near others : Pass) → len ≡ length list → T (allInRange (toOklab color))
+    → Passed list (toOklab color) (length list) 1 (length list) near
+    → (recordsNumber list ≡ 0 → Passed list (recordAt list (nearestOf (candidatesOf list) (toOklab color)) .oklab) (nearestOf (candidatesOf list) (toOklab color)) width (length list) others)
+    → (r : ℕ) → r ≡ numberBy len (near .ranged) → (total : ℕ) → (others .count ≤ 16 → total ≡ others .count + 1)
+    → {rs ns : List ℕ} {os : List Float} → LaidIn (take total (inLine (getD (near .kept) 0 noEntry .color) (others .kept))) total rs ns os
+    → Shortened list width color (record { number = r; count = total; reduced = rs; normalized = ns; oklab = os })
+joined-is list color width len near others e O P Q r g total T₁ {rs} {ns} {os} L = record {
+  range = O;
+  number = number-is list len (near .ranged) r e (P .ranged) g;
+  short = λ z. subst (λ (l : List CandidateColor). LaidIn l total rs ns os) (line z) L;
+}
+  where
+    cs : Candidates
+    cs = candidatesOf list
+
+    p : Oklab
+    p = recordAt list (nearestOf (candidatesOf list) (toOklab color)) .oklab
+
+    line : recordsNumber list ≡ 0 → take total (inLine (getD (near .kept) 0 noEntry .color) (others .kept)) ≡ shortRecords list width color
+    line z =
+        let A = accepted list z in
+        let a : ℕ = nearestOf (candidatesOf list) (toOklab color) in
+        let K = Q z .keeps (A .range a (nearest-inside (candidatesOf list .oklab) (length list) (toOklab color) (A .positive))) (A .ranged) in
+        let js : List ℕ = shortlistOf (farOf list (recordAt list a .oklab)) a (length list) width in
+        let few : others .count ≤ 16 = omega (arith, K .count, length-take (clampWidth width) (ranked (farOf list (recordAt list a .oklab)) a (length list))) in
+        let one : total ≡ suc (others .count) = T₁ few ∙ add-one (others .count) in
+        let first : getD (near .kept) 0 noEntry .color ≡ recordAt list a = ap (λ (x : Kept). x .color) (nearest-kept list (toOklab color) near P O (A .positive) (A .ranged)) in
+        let rest : take (others .count) (map (λ (x : Kept). x .color) (others .kept)) ≡ map (recordAt list) js =
+        sym (map-take (λ (x : Kept). x .color) (others .count) (others .kept)) ∙ ap (map (λ (x : Kept). x .color)) (K .front)
+        ∙ map-map (entryOf (recordAt list) (farOf list (recordAt list a .oklab))) (λ (x : Kept). x .color) js in
+        ap (λ (m : ℕ). take m (inLine (getD (near .kept) 0 noEntry .color) (others .kept))) one ∙ (λ i. first i ∷ rest i)
+
+-- ---- the records at two places of flat lists
+module _ (list : List CandidateColor) (t : Two) where
+  pub records-two : (b : ℕ) → t .second ≡ At b → (x y : CandidateColor) {x′ y′ : CandidateColor} → x ≡ x′ → y ≡ y′ → x′ ≡ recordAt list (t .first) → y′ ≡ recordAt list b → both.Two x y ≡ recordsAt list (t .first) (t .second)
+  records-two b e x y p q f g = (λ i. both.Two ((p ∙ f) i) ((q ∙ g) i)) ∙ ap (recordsAt list (t .first)) (sym e)
+
+  pub records-one : t .second ≡ Nothing → (x : CandidateColor) {x′ : CandidateColor} → x ≡ x′ → x′ ≡ recordAt list (t .first) → both.One x ≡ recordsAt list (t .first) (t .second)
+  records-one e x p f = ap both.One (p ∙ f) ∙ ap (recordsAt list (t .first)) (sym e)
+
+-- ---- the flat answer over the short list
+abbrev twoOr : Two → FoundTwo → Two
+twoOr u (two.At t) = t
+twoOr u (two.Refused n) = u
+
+-- the front of an array
+pub front-long : {A : Type 0} (m : ℕ) (l : List A) → m ≤ length l → m ≡ length (take m l)
+front-long m l h = sym (length-take-le m l h)
+
+-- its positions are entries
+pub two-inside : (rs ns : List ℕ) (os : List Float) (color : NormalizedColor) (width : ℕ) (x : FoundTwo) (t : Two) → x ≡ nearestTwoAnswer rs ns os color width → x ≡ two.At t
+    → (t .first < length rs / 4) × ((b : ℕ) → t .second ≡ At b → b < length rs / 4)
+two-inside rs ns os color width x t p q =
+    let e = sym p ∙ q in
+    let z = sym (Flat.nearest-two-number rs ns os color width) ∙ ap numberOfTwo e in
+    let A = Flat′.accepted rs ns os z in
+    let cs = flat rs ns os in
+    let n : Two = nearestTwoOf cs width (toOklab color) color in
+    let s : t ≡ n = sym (ap (twoOr t) (Flat.two-accepted rs ns os color (listNumber rs ns os) refl width z (toOklab color) n refl refl ∙ e)) in
+    (first-entry cs width (toOklab color) color t s (A .positive), second-entry cs width (toOklab color) color t s (A .positive) (A .ranged .range))
+
+-- of which there are at most 17
+pub two-few : (color : NormalizedColor) (width : ℕ) (s : Short) (x : FoundTwo) (t : Two) → s .count ≤ 17
+    → x ≡ nearestTwoAnswer (take (4 * s .count) (s .reduced)) (take (4 * s .count) (s .normalized)) (take (3 * s .count) (s .oklab)) color width → x ≡ two.At t
+    → (t .first < 17) × ((b : ℕ) → t .second ≡ At b → b < 17)
+two-few color width s x t h p q =
+    let i = two-inside (take (4 * s .count) (s .reduced)) (take (4 * s .count) (s .normalized)) (take (3 * s .count) (s .oklab)) color width x t p q in
+    let l = length-take (4 * s .count) (s .reduced) in
+    (omega (arith, i .0, l), λ b e. omega (arith, i .1 b e, l))
+
+module _ (list : List CandidateColor) (color : NormalizedColor) (width : ℕ) (s : Short) (S : Shortened list width color s) where
+  pub two-refused : (s .number ≡ 0 → ⊥) → both.Refused (s .number) ≡ nearestTwoRecords list color width
+  unfolding nearestTwoRecords
+  two-refused h = ap both.Refused (S .number) ∙ after-refused (recordsNumber list) _ (both.Refused (recordsNumber list)) (λ z. h (S .number ∙ z))
+
+  pub bracket-refused : (s .number ≡ 0 → ⊥) → bracket.Refused (s .number) ≡ recordsBracket list color width
+  unfolding recordsBracket
+  bracket-refused h = ap bracket.Refused (S .number) ∙ after-refused (recordsNumber list) _ (bracket.Refused (recordsNumber list)) (λ z. h (S .number ∙ z))
+
+  module _ (e : s .number ≡ 0) where
+    z : recordsNumber list ≡ 0
+    z = sym (S .number) ∙ e
+
+    L : LaidIn (shortRecords list width color) (s .count) (s .reduced) (s .normalized) (s .oklab)
+    L = S .short z
+
+    two-from : (x : FoundTwo) → x ≡ nearestTwoAnswer (take (4 * s .count) (s .reduced)) (take (4 * s .count) (s .normalized)) (take (3 * s .count) (s .oklab)) color width
+        → foundTwoIn (shortRecords list width color) x ≡ nearestTwoRecords list color width
+    two-from x h =
+        ap (foundTwoIn (shortRecords list width color)) (h ∙ (λ i. nearestTwoAnswer (L .reduced i) (L .normalized i) (L .oklab i) color width))
+        ∙ two-agrees (shortRecords list width color) color width ∙ two-short list color width (accepted list z) (S .range) z
+
+    pub bracket-from : (x : FoundBracket) → x ≡ bracketAnswer (take (4 * s .count) (s .reduced)) (take (4 * s .count) (s .normalized)) (take (3 * s .count) (s .oklab)) color width → x ≡ recordsBracket list color width
+    bracket-from x h =
+        h ∙ (λ i. bracketAnswer (L .reduced i) (L .normalized i) (L .oklab i) color width)
+        ∙ bracket-agrees (shortRecords list width color) color width ∙ bracket-same list color width (accepted list z) (S .range) z
+
+    -- the records at the positions of the flat answer
+    record-from : (k : ℕ) → k < length (take (4 * s .count) (s .reduced)) / 4 → recordIn (s .reduced) (s .normalized) (s .oklab) k ≡ recordAt (shortRecords list width color) k
+    record-from k h = laid-record (shortRecords list width color) L k (omega (arith, length-take (4 * s .count) (s .reduced)))
+
+    pub two-found : (x : FoundTwo) (t : Two) → x ≡ nearestTwoAnswer (take (4 * s .count) (s .reduced)) (take (4 * s .count) (s .normalized)) (take (3 * s .count) (s .oklab)) color width → x ≡ two.At t
+        → (r : FoundRecords)
+        → ((l : List CandidateColor) → recordIn (s .reduced) (s .normalized) (s .oklab) (t .first) ≡ recordAt l (t .first)
+        → ((b : ℕ) → t .second ≡ At b → recordIn (s .reduced) (s .normalized) (s .oklab) b ≡ recordAt l b) → r ≡ recordsAt l (t .first) (t .second))
+        → r ≡ nearestTwoRecords list color width
+    two-found x t p q r h =
+        let i = two-inside (take (4 * s .count) (s .reduced)) (take (4 * s .count) (s .normalized)) (take (3 * s .count) (s .oklab)) color width x t p q in
+        h (shortRecords list width color) (record-from (t .first) (i .0)) (λ b e. record-from b (i .1 b e)) ∙ ap (foundTwoIn (shortRecords list width color)) (sym q) ∙ two-from x p
+
+    pub two-not-found : (x : FoundTwo) (n : ℕ) → x ≡ nearestTwoAnswer (take (4 * s .count) (s .reduced)) (take (4 * s .count) (s .normalized)) (take (3 * s .count) (s .oklab)) color width → x ≡ two.Refused n
+        → both.Refused n ≡ nearestTwoRecords list color width
+    two-not-found x n p q = ap (foundTwoIn (shortRecords list width color)) (sym q) ∙ two-from x p

@@ -1,0 +1,10 @@
+-- The laws of `records`.
+mod MapLaws
+pub mod ListLaws
+pub mod KeepingLaws
+pub mod FlatLaws
+pub mod AgreeLaws
+pub mod ShortLaws
+pub mod AnswerLaws
+mod Said
+pub mod Unique

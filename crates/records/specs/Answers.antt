@@ -1,0 +1,69 @@
+-- What the lookups over records answer, and document 01's numbers of the answers. Definitions only.
+-- Written from document 01, "Bounds and replies": "The lookups take the caller's list of candidate records and answer with a copy of the chosen one",
+-- "A refusal returns no colour."; and "Choosing colours": "With one candidate there is no second."
+use Prim.Native.Nat.{ℕ}
+use mathlib.Core.List.{List}
+use Rattle.lists.specs.Lowest.{after}
+use Rattle.color.specs.declared.CandidateColor.{CandidateColor}
+use Rattle.color.specs.declared.NormalizedColor.{NormalizedColor}
+use Rattle.conversion.specs.Oklab.{toOklab}
+use Rattle.shortlist.specs.Nearest.{nearestOf}
+use Rattle.lookup.specs.declared.Two.{Two}
+use Rattle.lookup.specs.declared.Second.{Second}
+use Rattle.lookup.specs.declared.Second.the-variants.{At, Nothing}
+use Rattle.lookup.specs.declared.Found.{Found}
+use Rattle.lookup.specs.declared.Found.the-variants as found
+use Rattle.lookup.specs.declared.FoundTwo.{FoundTwo}
+use Rattle.lookup.specs.declared.FoundTwo.the-variants as two
+use Rattle.lookup.specs.declared.FoundBracket.{FoundBracket}
+use Rattle.lookup.specs.declared.FoundBracket.the-variants as bracket
+use Rattle.lookup.specs.Second.{nearestTwoOf}
+use Rattle.lookup.specs.Bracket.{bracketOf}
+use Rattle.records.specs.declared.FoundRecord.{FoundRecord}
+use Rattle.records.specs.declared.FoundRecord.the-variants as one
+use Rattle.records.specs.declared.FoundRecords.{FoundRecords}
+use Rattle.records.specs.declared.FoundRecords.the-variants as both
+use Rattle.records.specs.Lists.{recordAt, candidatesOf, recordsNumber}
+
+-- the records at the positions of two
+abbrev pub recordsAt : List CandidateColor → ℕ → Second → FoundRecords
+recordsAt list a Nothing = both.One (recordAt list a)
+recordsAt list a (At b) = both.Two (recordAt list a) (recordAt list b)
+
+-- the nearest record, or the number of the list
+unfoldable pub nearestRecord : List CandidateColor → NormalizedColor → FoundRecord
+nearestRecord list color =
+    let n = recordsNumber list in
+    after n (one.Chosen (recordAt list (nearestOf (candidatesOf list) (toOklab color)))) (one.Refused n)
+
+-- the nearest two, or the number of the list
+unfoldable pub nearestTwoRecords : List CandidateColor → NormalizedColor → ℕ → FoundRecords
+nearestTwoRecords list color width =
+    let n = recordsNumber list in
+    let t = nearestTwoOf (candidatesOf list) width (toOklab color) color in
+    after n (recordsAt list (t .first) (t .second)) (both.Refused n)
+
+-- the bracket, or the number of the list
+unfoldable pub recordsBracket : List CandidateColor → NormalizedColor → ℕ → FoundBracket
+recordsBracket list color width =
+    let n = recordsNumber list in
+    after n (bracket.Of (bracketOf (candidatesOf list) width (toOklab color) color)) (bracket.Refused n)
+
+-- ---- the flat calls' answers as answers over records: the records at the positions (proofs/AgreeLaws)
+abbrev pub foundIn : List CandidateColor → Found → FoundRecord
+foundIn list (found.At k) = one.Chosen (recordAt list k)
+foundIn list (found.Refused n) = one.Refused n
+
+abbrev pub foundTwoIn : List CandidateColor → FoundTwo → FoundRecords
+foundTwoIn list (two.At t) = recordsAt list (t .first) (t .second)
+foundTwoIn list (two.Refused n) = both.Refused n
+
+-- ---- document 01's number of an answer; a bracket's is `lookup`'s `numberOfBracket`
+abbrev pub numberOfRecord : FoundRecord → ℕ
+numberOfRecord (one.Chosen c) = 0
+numberOfRecord (one.Refused n) = n
+
+abbrev pub numberOfRecords : FoundRecords → ℕ
+numberOfRecords (both.One a) = 0
+numberOfRecords (both.Two a b) = 0
+numberOfRecords (both.Refused n) = n
