@@ -2,21 +2,21 @@
 -- Two results that satisfy its promise are equal (`colors-only`). Assumes nothing.
 use mathlib.Core.Path.{_≡_, refl, sym, ap, _∙_}
 use mathlib.Core.Bool.{Bool, true, false, cond, not}
-use mathlib.Core.List.{List, [], _∷_, _++_}
+use mathlib.Core.List.{List, [], _∷_}
 use Prim.Native.Nat.{ℕ, zero, suc, _*_, _/_, _%_, _≤_}
 use native.Mathlib.Omega.{arith}
-use borrow.Author.Tests.{ltb-false, eqb-true, not-false, ne-eqb}
+use borrow.Author.Tests.{ltb-false, ne-eqb}
 use lib.Dec.{ltb, eqb}
 use lib.Ieee.{Float}
 use lib.ListN.{length, replicate}
 use Rattle.lists.specs.Lowest.{Reply, _if_, lowest, after}
 use Rattle.lists.specs.Unique.{Unique}
-use Rattle.lists.proofs.Bools.{or-split}
-use Rattle.lists.proofs.LowestLaws.{NoneApplies, lowest-zero, lowest-none, lowest-at, after-refused}
-use Rattle.mixing.specs.Widths.{isShift}
-use Rattle.picture.specs.Bounds.{sizeWrong, tableWrong}
+use Rattle.lists.proofs.Bools.{or-split, equals}
+use Rattle.lists.proofs.LowestLaws.{NoneApplies, lowest-zero, lowest-none, lowest-at, lowest-front, lowest-upto, after-refused}
+use Rattle.picture.specs.Bounds.{tableWrong}
+use Rattle.picture.proofs.BoundLaws.{sized}
 use Rattle.candidates.specs.Rooms.{placesWith, oklabWith, tooMany, Collects}
-use Rattle.candidates.specs.Calls.{Lent, candidatesIn, lengthsOf, placesWrong, lengthsWrong, checks, replies, numberOf, answerOf, placesAfter, oklabAfter, CandidateColors}
+use Rattle.candidates.specs.Calls.{Lent, candidatesIn, lengthsOf, roomsWrong, lengthsWrong, checks, replies, numberOf, answerOf, placesAfter, oklabAfter, CandidateColors}
 use Rattle.candidates.specs.declared.Lengths.{Lengths}
 use Rattle.candidates.specs.declared.Collected.{Collected}
 use Rattle.candidates.specs.declared.Collected.the-variants as collected
@@ -24,10 +24,12 @@ use Rattle.candidates.specs.declared.CandidateCount.{CandidateCount}
 use Rattle.candidates.specs.declared.CandidateCount.the-variants.{Count, Refused}
 
 -- ---- what the checks leave
-pub size-within : (width height : ℕ) → sizeWrong width height ≡ false → width * height ≤ 1048576
-unfolding sizeWrong
-size-within width height e =
-    ltb-false 1048576 (width * height) (or-split (ltb 4096 height) (ltb 1048576 (width * height)) (or-split (ltb 4096 width) _ e .1) .1)
+-- rooms that are not wrong: at most 65,536 places, and three floats a place
+pub roomy : (places oklab : ℕ) → roomsWrong places oklab ≡ false → (places ≤ 262144) × (oklab ≡ 3 * (places / 4))
+unfolding roomsWrong
+roomy places oklab e =
+    let a = or-split (ltb 262144 places) _ (or-split (not (eqb (places % 4) 0)) _ e .1) in
+    (ltb-false 262144 places (a .0), equals oklab (3 * (places / 4)) (a .1))
 
 pub record Ready (n : ℕ) (lent : Lengths) : Type 0 where
   pub size : n ≤ 1048576
@@ -38,40 +40,21 @@ pub record Ready (n : ℕ) (lent : Lengths) : Type 0 where
   pub oklab : lent .oklab ≡ 3 * (lent .places / 4)
 
 pub accepted : (shift width height : ℕ) (lent : Lengths) → lowest (checks shift width height lent) ≡ 0 → Ready (width * height) lent
-unfolding lengthsWrong placesWrong tableWrong
+unfolding lengthsWrong tableWrong
 accepted shift width height lent e =
     let none = lowest-none (checks shift width height lent) tt e in
     let a = or-split (tableWrong (lent .reduction)) _ (none .1 .1 .0) in
     let b = or-split (tableWrong (lent .scale)) _ (a .1) in
     let d = or-split (not (eqb (lent .pixels) (4 * (width * height)))) _ (b .1) in
-    let f = or-split (placesWrong (lent .places)) _ (d .1) in
-    let g = or-split (not (eqb (lent .places % 4) 0)) (ltb 262144 (lent .places)) (f .0) in
+    let room = roomy (lent .places) (lent .oklab) (d .1) in
     record {
-      size = size-within width height (none .1 .0);
-      reduction = same (lent .reduction) 256 (a .0);
-      scale = same (lent .scale) 256 (b .0);
-      pixels = same (lent .pixels) (4 * (width * height)) (d .0);
-      places = ltb-false 262144 (lent .places) (g .1);
-      oklab = same (lent .oklab) (3 * (lent .places / 4)) (f .1);
+      size = sized width height (none .1 .0) .2;
+      reduction = equals (lent .reduction) 256 (a .0);
+      scale = equals (lent .scale) 256 (b .0);
+      pixels = equals (lent .pixels) (4 * (width * height)) (d .0);
+      places = room .0;
+      oklab = room .1;
     }
-  where
-    same : (x y : ℕ) → not (eqb x y) ≡ false → x ≡ y
-    same x y e = eqb-true x y (not-false (eqb x y) e)
-
--- ---- the lowest of some replies, and of more behind them
-lowest-front : (xs ys : List Reply) → (lowest xs ≡ 0 → ⊥) → lowest (xs ++ ys) ≡ lowest xs
-lowest-front [] ys n = absurd (n refl)
-lowest-front (x ∷ xs) ys n = go (x .applies) n (lowest-front xs ys)
-  where
-    go : (t : Bool) → (cond t (x .number) (lowest xs) ≡ 0 → ⊥) → ((lowest xs ≡ 0 → ⊥) → lowest (xs ++ ys) ≡ lowest xs) → cond t (x .number) (lowest (xs ++ ys)) ≡ cond t (x .number) (lowest xs)
-    go true n later = refl
-    go false n later = later n
-
-small : (s t u : Bool) → cond s 1 (cond t 2 (cond u 3 0)) ≤ 3
-small true t u = omega arith
-small false true u = omega arith
-small false false true = omega arith
-small false false false = omega arith
 
 -- ---- the answers
 abbrev answer-from : Collected → CandidateCount
@@ -108,7 +91,7 @@ module _ (x : Lent) where
       refused (suc r) n = refl
 
       not-seven : r ≡ 7 → ⊥
-      not-seven q = omega (arith, small (not (isShift (x .shift))) (sizeWrong (x .width) (x .height)) (lengthsWrong (x .width * x .height) (lengthsOf x)))
+      not-seven q = omega (arith, e, lowest-upto 3 before tt)
 
   pub call-collected : lowest (checks (x .shift) (x .width) (x .height) (lengthsOf x)) ≡ 0 → {r s : Collected} {places : List ℕ} {oklab : List Float}
       → Collects (candidatesIn x) (x .scale) (x .places) (x .oklab) s places oklab → s ≡ r → CandidateColors x (answer-from r) places oklab

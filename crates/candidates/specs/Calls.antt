@@ -36,15 +36,15 @@ candidatesIn x = candidatesOf (x .reduction) (x .pixels) (x .width * x .height)
 abbrev pub lengthsOf : Lent → Lengths
 lengthsOf x = record { reduction = length (x .reduction); scale = length (x .scale); pixels = length (x .pixels); places = length (x .places); oklab = length (x .oklab) }
 
--- places that are no whole colours, or more than 65,536
-unfoldable pub placesWrong : ℕ → Bool
-placesWrong bytes = not (eqb (bytes % 4) 0) || ltb 262144 bytes
+-- places that are no whole colours, or more than 65,536; or not three floats beside each
+unfoldable pub roomsWrong : ℕ → ℕ → Bool
+roomsWrong places oklab = not (eqb (places % 4) 0) || (ltb 262144 places || not (eqb oklab (3 * (places / 4))))
 
 -- a table, the pixels or a room has another length than n pixels need
 unfoldable pub lengthsWrong : ℕ → Lengths → Bool
 lengthsWrong n lent =
     tableWrong (lent .reduction)
-    || (tableWrong (lent .scale) || (not (eqb (lent .pixels) (4 * n)) || (placesWrong (lent .places) || not (eqb (lent .oklab) (3 * (lent .places / 4))))))
+    || (tableWrong (lent .scale) || (not (eqb (lent .pixels) (4 * n)) || roomsWrong (lent .places) (lent .oklab)))
 
 -- the refusals that need no look at a pixel, and all of them
 abbrev pub checks : ℕ → ℕ → ℕ → Lengths → List Reply

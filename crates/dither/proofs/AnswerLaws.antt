@@ -8,15 +8,15 @@ use native.Mathlib.Omega.{arith}
 use lib.ListN.{length}
 use Rattle.lists.specs.Lowest.{_if_, lowest}
 use Rattle.lists.proofs.LowestLaws.{lowest-none, lowest-at}
+use Rattle.mixing.specs.Widths.{modeWrong}
 use Rattle.candidates.specs.Rooms.{tooMany}
 use Rattle.dither.specs.declared.Dithered.{Dithered}
 use Rattle.dither.specs.declared.Dithered.the-variants.{Over}
-use Rattle.dither.specs.Mode.{Order, Buffers, candidateList, tiles, tileOver, overBudget, lengthsOf, modeWrong, boundsWrong, lengthsWrong, budgetWrong, checks, numberFor, numberOf, answerOf, DitheredToMode}
+use Rattle.dither.specs.Mode.{Order, Buffers, candidateList, tiles, tileOver, overBudget, lengthsOf, boundsWrong, lengthsWrong, budgetWrong, checks, numberFor, numberOf, answerOf, DitheredToMode}
 use Rattle.dither.proofs.BudgetLaws.{Outnumbers, tile-first, over-if}
-use Rattle.dither.proofs.CallLaws.{checked}
 
 -- the number is 8 only where the last test applies
-last : (a b c d f g : Bool) → checked a b c d (cond f 7 (cond g 8 0)) ≡ 8 → g ≡ true
+last : (a b c d f g : Bool) → _≡_ {A = ℕ} (cond a 1 (cond b 2 (cond c 3 (cond d 5 (cond f 7 (cond g 8 0)))))) 8 → g ≡ true
 last true b c d f g e = absurd (omega arith)
 last false true c d f g e = absurd (omega arith)
 last false false true d f g e = absurd (omega arith)

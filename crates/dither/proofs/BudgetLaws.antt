@@ -10,7 +10,7 @@ use Rattle.color.specs.Color.{sameReduced, reducedAt}
 use Rattle.picture.specs.Pixels.{isOpaque}
 use Rattle.judging.specs.declared.Judged.{Judged}
 use Rattle.judging.specs.declared.Judged.the-variants.{Fits, Over}
-use Rattle.judging.specs.Different.{Many}
+use Rattle.lists.specs.Different.{Many}
 use Rattle.judging.specs.Tiles as judging
 use Rattle.judging.specs.Tiles.{countsIn, verdictOf, judgedOf, JudgedAs}
 use Rattle.judging.proofs.JudgedLaws as laws

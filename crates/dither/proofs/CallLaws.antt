@@ -3,19 +3,19 @@
 use mathlib.Core.Path.{_≡_, refl, sym, _∙_, ap}
 use mathlib.Core.Bool.{Bool, true, false, cond}
 use mathlib.Core.List.{List, [], _∷_, _++_}
-use Prim.Native.Nat.{ℕ, _*_, _≤_}
+use Prim.Native.Nat.{ℕ}
 use native.Mathlib.Omega.{arith}
 use borrow.Author.Tests.{ne-eqb}
 use lib.ListN.{length, replicate}
 use lib.Ieee.{Float, ofBits, binary32}
 use Rattle.lists.specs.Lowest as lowest
 use Rattle.lists.specs.Lowest.{_if_, lowest, after}
-use Rattle.lists.proofs.LowestLaws.{NoneApplies, lowest-zero, lowest-none, lowest-at, after-refused}
+use Rattle.lists.proofs.LowestLaws.{NoneApplies, lowest-zero, lowest-none, lowest-at, lowest-front, lowest-upto, after-refused}
 use Rattle.drawing.specs.Lent.{cellsAfter}
 use Rattle.candidates.specs.Rooms.{placesWith, oklabWith, tooMany}
 use Rattle.dither.specs.declared.Dithered.{Dithered}
 use Rattle.dither.specs.declared.Dithered.the-variants.{Count, Over, Refused}
-use Rattle.dither.specs.Mode.{Order, Buffers, buffers, candidateList, dithering, tileOver, overBudget, pixelsOf, lengthsOf, modeWrong, boundsWrong, lengthsWrong, budgetWrong, checks, replies, numberFor, numberOf, answerOf, leaves, outAfter, cellsLeft, placesAfter, oklabAfter, DitheredToMode}
+use Rattle.dither.specs.Mode.{Order, Buffers, buffers, candidateList, dithering, tileOver, overBudget, pixelsOf, lengthsOf, checks, replies, numberFor, numberOf, answerOf, leaves, outAfter, cellsLeft, placesAfter, oklabAfter, DitheredToMode}
 use Rattle.dither.specs.Steps.{Completes}
 
 -- ---- the two ends of a picture whose candidates have places
@@ -28,17 +28,6 @@ module _ (q : Order) {out₀ : List ℕ} {cells₀ : List Float} {count : ℕ} (
   completed v o c = record { answer = rw v (ap Count counted); picture = rw v o; cell-buffer = rw v c }
 
 -- ---- the answers, by their number
--- the number of four checks, and else another number
-abbrev pub checked : Bool → Bool → Bool → Bool → ℕ → ℕ
-checked a b c d rest = cond a 1 (cond b 2 (cond c 3 (cond d 5 rest)))
-
-front : (a b c d : Bool) (rest : ℕ) → (checked a b c d 0 ≡ 0 → ⊥) → (checked a b c d rest ≡ checked a b c d 0) × (checked a b c d 0 ≤ 5)
-front true b c d rest n = (refl, omega arith)
-front false true c d rest n = (refl, omega arith)
-front false false true d rest n = (refl, omega arith)
-front false false false true rest n = (refl, omega arith)
-front false false false false rest n = absurd (n refl)
-
 module _ (q : Order) (was : Buffers) where
   abbrev before : List lowest.Reply
   before = checks (q .settings) (lengthsOf q was)
@@ -72,11 +61,10 @@ module _ (q : Order) (was : Buffers) where
   pub call-refused : {n : ℕ} → n ≡ lowest (checks (q .settings) (lengthsOf q was)) → (n ≡ 0 → ⊥) → DitheredToMode q was (Refused n) was
   unfolding numberFor placesAfter oklabAfter outAfter cellsLeft
   call-refused {n} e some =
-      let s = q .settings in
-      let f = front (modeWrong (s .kind) (s .shift)) (boundsWrong s) (lengthsWrong (s .kind) (s .width * s .height) (lengthsOf q was)) (budgetWrong s) (lowest (seven ∷ eight ∷ [])) (λ z. some (e ∙ z)) in
-      let not-seven : n ≡ 7 → ⊥ = λ z. omega (arith, f .1, e) in
-      let not-eight : n ≡ 8 → ⊥ = λ z. omega (arith, f .1, e) in
-      call-is n (f .0 ∙ sym e) refl (refused-as n some not-eight) (rw (ne-eqb n 7 not-seven) (unchanged n _ _ (was .places) some not-eight)) (unchanged n _ _ (was .oklab) some not-eight)
+      let few = lowest-upto 5 before tt in
+      let not-seven : n ≡ 7 → ⊥ = λ z. omega (arith, few, e) in
+      let not-eight : n ≡ 8 → ⊥ = λ z. omega (arith, few, e) in
+      call-is n (lowest-front before (seven ∷ eight ∷ []) (λ z. some (e ∙ z)) ∙ sym e) refl (refused-as n some not-eight) (rw (ne-eqb n 7 not-seven) (unchanged n _ _ (was .places) some not-eight)) (unchanged n _ _ (was .oklab) some not-eight)
       (unchanged n _ _ (was .out) some not-eight) (unchanged n _ _ (was .cells) some not-eight)
 
   -- where no check refuses

@@ -9,19 +9,18 @@ use native.Mathlib.Nat.{le-of-eq}
 use native.Mathlib.Omega.{arith}
 use borrow.Author.Tests.{ltb-false}
 use lib.Dec.{T}
-use lib.ListN.{length, getD, take, drop, replicate}
-use lib.Seq.{take-at}
+use lib.ListN.{length, getD, take, replicate}
 use lib.Ieee.{Float}
-use Rattle.lists.specs.Gather.{gather, filled}
 use Rattle.lists.specs.Order.{In}
 use Rattle.lists.proofs.Bools.{or-split}
-use Rattle.lists.proofs.GatherLaws.{gather-length, filled-length}
+use Rattle.lists.proofs.GatherLaws.{gather-length, filled-length, filled-front}
 use Rattle.color.specs.declared.Oklab.{Oklab}
 use Rattle.color.specs.declared.ReducedColor.{ReducedColor}
 use Rattle.color.specs.Color.{isTransparent, bytesOf}
 use Rattle.color.specs.Tables.{normalizeColor}
 use Rattle.color.specs.Oklab.{allInRange, floatsOf}
 use Rattle.color.proofs.Distances.{range-all-in}
+use Rattle.color.proofs.PieceLaws.{oklab-gathered}
 use Rattle.picture.specs.Pixels.{pixelAt, isOpaque}
 use Rattle.picture.proofs.Opaque.{opaque-is}
 use Rattle.conversion.specs.Oklab.{toOklab}
@@ -36,7 +35,6 @@ use Rattle.candidates.specs.Rooms.{candidateAt, placesWith, oklabWith, tooMany,
 use Rattle.candidates.proofs.CandidateLaws.{candidates-is}
 use Rattle.dither.specs.Mode.{Order, candidateList, candidateBytes, candidateOklab}
 use Rattle.dither.specs.Steps.{Roomed}
-use Rattle.dither.proofs.PieceLaws.{oklab-gathered}
 
 -- ---- the answer of the collecting
 module _ {cs : List ReducedColor} {scale was now : List ℕ} {oklab oklab′ : List Float} {r : Collected} (p : Collects cs scale was oklab r now oklab′) where
@@ -57,9 +55,6 @@ module _ {cs : List ReducedColor} {scale was now : List ℕ} {oklab oklab′ : L
       go false t e b f = absurd (let z : _≡_ {A = ℕ} 0 1 = cc in omega arith)
 
 -- ---- the fronts of the rooms
-filled-front : {A : Type 0} (k n : ℕ) (piece : ℕ → List A) (d : List A) → ((j : ℕ) → length (piece j) ≡ k) → take (k * n) (filled k n piece d) ≡ gather n piece
-filled-front k n piece d pieces = take-at (gather n piece) (drop (k * n) d) (k * n) (gather-length k piece pieces n)
-
 module _ (q : Order) where
   pub roomed : {was now : List ℕ} {oklab oklab′ : List Float} {r : Collected} {count : ℕ} → Collects (candidateList q) (q .scale) was oklab r now oklab′ → r ≡ Count count
       → length oklab ≡ 3 * (length was / 4) → Roomed q now oklab′ count
@@ -74,8 +69,8 @@ module _ (q : Order) where
         counted = c .1;
         bytes = omega (arith, c .1);
         floats = omega (arith, c .1);
-        colors = (λ t. take (4 * c .1 t) (c .2 t)) ∙ filled-front 4 (length cs) (λ i. bytesOf (candidateAt cs i .0)) was (λ i. refl);
-        converted = (λ t. take (3 * c .1 t) (c .3 t)) ∙ filled-front 3 (length cs) (λ i. floatsOf (toOklab (normalizeColor (q .scale) (candidateAt cs i)))) oklab (λ i. refl);
+        colors = (λ t. take (4 * c .1 t) (c .2 t)) ∙ filled-front 4 (λ i. bytesOf (candidateAt cs i .0)) (λ i. refl) was (length cs);
+        converted = (λ t. take (3 * c .1 t) (c .3 t)) ∙ filled-front 3 (λ i. floatsOf (toOklab (normalizeColor (q .scale) (candidateAt cs i)))) (λ i. refl) oklab (length cs);
       }
 
 -- ---- the candidates that are lent to the drawing

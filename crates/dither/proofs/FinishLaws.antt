@@ -9,10 +9,10 @@ use Rattle.lists.specs.Gather.{gather}
 use Rattle.lists.proofs.FillLaws.{Filling, fill-store, fill-done}
 use Rattle.color.specs.declared.NormalizedColor.{NormalizedColor}
 use Rattle.color.specs.Color.{rgbaAt, reducedAt, bytesOf}
+use Rattle.color.proofs.PieceLaws.{rgba-rest}
 use Rattle.picture.specs.Pixels.{isOpaque}
 use Rattle.dither.specs.Mode.{finished}
 use Rattle.dither.specs.Steps.{Finishable, finishedBytes}
-use Rattle.dither.proofs.PieceLaws.{rgba-rest}
 
 -- what becomes of pixel j, whose reduced choice is lent, and its bytes
 abbrev pub finishedAt : List ℕ → List ℕ → List ℕ → ℕ → NormalizedColor

@@ -4,7 +4,6 @@ pub mod PixelLaws
 pub mod BudgetLaws
 pub mod AnswerLaws
 pub mod NumberLaws
-mod PieceLaws
 pub mod CandidateLaws
 pub mod DrawnLaws
 mod FinishLaws

@@ -2,34 +2,27 @@
 -- Assumes nothing.
 use mathlib.Core.Path.{_≡_, _∙_}
 use mathlib.Core.Bool.{false, not}
-use Prim.Native.Nat.{ℕ, _*_, _/_, _%_, _≤_}
+use Prim.Native.Nat.{ℕ, _*_, _/_, _≤_}
 use native.Mathlib.Omega.{arith}
-use borrow.Author.Tests.{ltb-false, eqb-true, eqb-false, not-false}
+use borrow.Author.Tests.{ltb-false, eqb-false, not-false}
 use lib.Dec.{eqb, ltb}
 use lib.ListN.{length}
 use Rattle.lists.specs.Lowest.{Lowest, lowest}
-use Rattle.lists.proofs.Bools.{or-split}
+use Rattle.lists.proofs.Bools.{or-split, equals}
 use Rattle.lists.proofs.LowestLaws.{lowest-none, lowest-is}
 use Rattle.picture.specs.Bounds.{sizeWrong, originWrong, tableWrong, sideWrong}
-use Rattle.candidates.specs.Calls.{placesWrong}
+use Rattle.picture.proofs.BoundLaws.{sized}
+use Rattle.patterns.specs.Kinds.{cellsNeeded}
+use Rattle.mixing.specs.Widths.{modeWrong}
+use Rattle.candidates.specs.Calls.{roomsWrong}
+use Rattle.candidates.proofs.CallLaws.{roomy}
 use Rattle.dither.specs.declared.Settings.{Settings}
-use Rattle.dither.specs.Mode.{Order, Buffers, size, lengthsOf, modeWrong, boundsWrong, cellsNeeded, roomsWrong, lengthsWrong, budgetWrong, checks, replies, numberFor}
+use Rattle.dither.specs.Mode.{Order, Buffers, size, lengthsOf, boundsWrong, lengthsWrong, budgetWrong, checks, replies, numberFor}
 use Rattle.dither.specs.Steps.{Fitting}
 
 pub number-is : (q : Order) (b : Buffers) → Lowest (replies q b) (numberFor q b)
 unfolding numberFor
 number-is q b = lowest-is (replies q b) tt
-
--- a length that is not wrong
-right : (m n : ℕ) → not (eqb m n) ≡ false → m ≡ n
-right m n e = eqb-true m n (not-false _ e)
-
-pub sized : (width height : ℕ) → sizeWrong width height ≡ false → (width ≤ 4096) × (height ≤ 4096) × (width * height ≤ 1048576)
-unfolding sizeWrong
-sized width height e =
-    let a = or-split (ltb 4096 width) _ e in
-    let b = or-split (ltb 4096 height) _ (a .1) in
-    (ltb-false 4096 width (a .0), ltb-false 4096 height (b .0), ltb-false 1048576 (width * height) (b .1))
 
 -- the picture's size, where its bounds are not wrong
 pub bounded : (s : Settings) → boundsWrong s ≡ false → s .width * s .height ≤ 1048576
@@ -72,11 +65,11 @@ module _ (q : Order) (b : Buffers) (e : lowest (checks (q .settings) (lengthsOf 
         small = bounds .2;
         across = ltb-false 4294967295 _ (b2 .0);
         down = ltb-false 4294967295 _ (b2 .1);
-        reduction = right _ _ (l1 .0);
-        scale = right _ _ (l2 .0);
-        pixels = right _ _ (l3 .0);
-        out-long = right _ _ (l5 .0);
-        cells-long = λ d. right _ _ (l5 .1) ∙ rw d;
+        reduction = equals _ _ (l1 .0);
+        scale = equals _ _ (l2 .0);
+        pixels = equals _ _ (l3 .0);
+        out-long = equals _ _ (l5 .0);
+        cells-long = λ d. equals _ _ (l5 .1) ∙ rw d;
         some-wide = across .0;
         tile-wide = across .1;
         some-high = down .0;
@@ -85,15 +78,12 @@ module _ (q : Order) (b : Buffers) (e : lowest (checks (q .settings) (lengthsOf 
       }
 
   -- the rooms: at most 65,536 places, and three floats a place
-  pub roomy : (length (b .places) ≤ 262144) × (length (b .oklab) ≡ 3 * (length (b .places) / 4))
-  unfolding lengthsWrong roomsWrong placesWrong
-  roomy =
+  pub room : (length (b .places) ≤ 262144) × (length (b .oklab) ≡ 3 * (length (b .places) / 4))
+  unfolding lengthsWrong
+  room =
       let l = lengthsOf q b in
       let none = lowest-none (checks (q .settings) l) tt e in
       let l1 = or-split (tableWrong (l .reduction)) _ (none .1 .1 .0) in
       let l2 = or-split (tableWrong (l .scale)) _ (l1 .1) in
       let l3 = or-split (not (eqb (l .pixels) (4 * size q))) _ (l2 .1) in
-      let l4 = or-split (roomsWrong (l .places) (l .oklab)) _ (l3 .1) in
-      let r = or-split (placesWrong (l .places)) _ (l4 .0) in
-      let p = or-split (not (eqb (l .places % 4) 0)) (ltb 262144 (l .places)) (r .0) in
-      (ltb-false 262144 (l .places) (p .1), right _ _ (r .1))
+      roomy _ _ (or-split (roomsWrong (l .places) (l .oklab)) _ (l3 .1) .0)

@@ -8,6 +8,7 @@ use Prim.Native.Nat.{ℕ, _<_}
 use lib.ListN.{getD}
 use Rattle.color.specs.Color.{normalizedAt, isTransparent, transparentNormalized}
 use Rattle.color.specs.Tables.{normalizeColor}
+use Rattle.color.proofs.PieceLaws.{rgba-gathered}
 use Rattle.picture.specs.Pixels as picture
 use Rattle.picture.specs.Pixels.{isOpaque}
 use Rattle.drawing.specs.Drawing.{Among}
@@ -16,7 +17,6 @@ use Rattle.drawing.proofs.DrawnLaws.{drawn-skipped}
 use Rattle.drawing.proofs.CandidateLaws.{drawn-candidate}
 use Rattle.dither.specs.declared.Dithered.{Dithered}
 use Rattle.dither.specs.Mode.{Order, Buffers, size, candidateList, dithering, chosen, finished, pixelAt, pixelsOf, numberFor, outAfter, DitheredToMode}
-use Rattle.dither.proofs.PieceLaws.{rgba-gathered}
 use Rattle.dither.proofs.CandidateLaws.{candidates-ranged, some-candidate}
 
 -- ---- what stands at pixel i

@@ -2,7 +2,7 @@
 -- Written from document 01, "Choosing colours" ("`dither_to_mode` uses source origin plus position", "max is .. the tile limit in
 -- `dither_to_mode`", "In `dither_to_mode` a non-transparent pixel whose reduced rgb equals colour zero's keeps its reduced colour") and "Bounds and
 -- replies". The candidates, the drawn picture and the judged tiles are defined in `candidates`, `drawing` and `judging`.
-use Prim.Native.Nat.{ℕ, _*_, _/_}
+use Prim.Native.Nat.{ℕ, _*_}
 use mathlib.Core.Path.{_≡_}
 use mathlib.Core.Bool.{Bool, cond, not, _||_}
 use mathlib.Core.List.{List, [], _∷_, _++_}
@@ -20,14 +20,14 @@ use Rattle.color.specs.Oklab.{floatsOf}
 use Rattle.picture.specs.Bounds.{sizeWrong, originWrong, tableWrong, sideWrong}
 use Rattle.picture.specs.Pixels.{isOpaque}
 use Rattle.conversion.specs.Oklab.{toOklab}
-use Rattle.patterns.specs.Kinds.{isDiffusion}
-use Rattle.mixing.specs.Widths.{isShift, widthOf}
+use Rattle.patterns.specs.Kinds.{cellsNeeded}
+use Rattle.mixing.specs.Widths.{modeWrong, widthOf}
 use Rattle.drawing.specs.declared.Ditherer.{Ditherer}
 use Rattle.drawing.specs.Drawing.{Drawing, drawn}
 use Rattle.drawing.specs.Lent.{Lent, lent, drawingOf, cellsAfter}
 use Rattle.candidates.specs.Candidates.{candidatesOf}
 use Rattle.candidates.specs.Rooms.{candidateAt, placesWith, oklabWith, tooMany}
-use Rattle.candidates.specs.Calls.{placesWrong}
+use Rattle.candidates.specs.Calls.{roomsWrong}
 use Rattle.judging.specs.Tiles.{tileCount, firstOver}
 use Rattle.dither.specs.declared.Settings.{Settings}
 use Rattle.dither.specs.declared.Lengths.{Lengths}
@@ -129,21 +129,9 @@ lengthsOf q b = record {
   cells = length (b .cells);
 }
 
--- 1: "kind above 10, or shift not 3, 4, 5"
-unfoldable pub modeWrong : ℕ → ℕ → Bool
-modeWrong kind shift = ltb 10 kind || not (isShift shift)
-
 -- 2: "size above the bound, or origin + side above 4,294,967,295"
 unfoldable pub boundsWrong : Settings → Bool
 boundsWrong s = sizeWrong (s .width) (s .height) || (originWrong (s .«origin_x») (s .width) || originWrong (s .«origin_y») (s .height))
-
--- "error cells are three f32 a pixel for diffusion, else none"
-unfoldable pub cellsNeeded : ℕ → ℕ → ℕ
-cellsNeeded kind pixels = cond (isDiffusion kind) (3 * pixels) 0
-
--- "Candidate places 0..65,536, four bytes each, with three f32 each beside them"
-unfoldable pub roomsWrong : ℕ → ℕ → Bool
-roomsWrong places oklab = placesWrong places || not (eqb oklab (3 * (places / 4)))
 
 -- 3: a lent length is wrong, for a kind and a number of pixels
 unfoldable pub lengthsWrong : ℕ → ℕ → Lengths → Bool

@@ -13,7 +13,7 @@ ghost use lib.ListN.{length, replicate};
 ghost use lib.Ieee.{ofBits, binary32};
 ghost use Rattle.lists.specs.Lowest.{lowest};
 ghost use Rattle.drawing.specs.Lent.{reducedBytes, cellsAfter};
-ghost use Rattle.dither.specs.Mode.{order, buffers, dithering, finished, cellsNeeded, modeWrong, boundsWrong, roomsWrong, lengthsWrong, budgetWrong, checks, DitheredToMode};
+ghost use Rattle.dither.specs.Mode.{order, buffers, dithering, finished, boundsWrong, lengthsWrong, budgetWrong, checks, DitheredToMode};
 ghost use Rattle.dither.specs.Steps.{Fitting, Roomed, Finishable, finishedBytes, Completes};
 
 // What is asked of a picture: the kind of dithering, the mode's shift, the picture's size and its origin in the source
@@ -52,38 +52,12 @@ pub struct Lengths {
 
 // ---- refusals
 
-// Whether there is no such kind, or no mode with that shift.
-fn mode_wrong(kind: u32, shift: u32) -> bool
-    ensures { λ t. ⌜ t ≡ modeWrong kind shift ⌝ }
-{
-    (10 < kind) | !mixing::is_shift(shift)
-}
-
 // Whether the size is above its bound, or the picture ends too far from the source picture's corner.
 fn bounds_wrong(s: Settings) -> bool
     ensures { λ t. ⌜ t ≡ boundsWrong s ⌝ }
 {
     picture::size_wrong(s.width, s.height)
         | (picture::origin_wrong(s.origin_x, s.width) | picture::origin_wrong(s.origin_y, s.height))
-}
-
-// How many error cells a picture needs: three a pixel for diffusion, else none. No public call: the caller sees to the
-// size.
-fn cells_needed(kind: u32, size: usize) -> usize
-    requires { ⌜ size ≤ 1048576 ⌝ }
-    ensures { λ n. ⌜ n ≡ cellsNeeded kind size ⌝ }
-{
-    if patterns::is_diffusion(kind) {
-        return 3 * size;
-    }
-    0
-}
-
-// Whether the places are no whole colours or too many, or the floats beside them not three a place.
-fn rooms_wrong(places: usize, oklab: usize) -> bool
-    ensures { λ t. ⌜ t ≡ roomsWrong places oklab ⌝ }
-{
-    ((places % 4 != 0) | (262144 < places)) | (oklab != 3 * (places / 4))
 }
 
 // Whether a lent length is wrong. No public call: the caller sees to the size.
@@ -94,8 +68,8 @@ fn lengths_wrong(kind: u32, size: usize, s: Lengths) -> bool
     picture::table_wrong(s.reduction)
         | (picture::table_wrong(s.scale)
             | ((s.pixels != 4 * size)
-                | (rooms_wrong(s.places, s.oklab)
-                    | ((s.out != 4 * size) | (s.cells != cells_needed(kind, size))))))
+                | (candidates::rooms_wrong(s.places, s.oklab)
+                    | ((s.out != 4 * size) | (s.cells != patterns::cells_needed(kind, size))))))
 }
 
 // Whether a tile's side or the limit is outside its bound.
@@ -109,7 +83,7 @@ fn budget_wrong(s: Settings) -> bool
 fn refusal(s: Settings, lengths: Lengths) -> u8
     ensures { λ n. ⌜ n ≡ lowest (checks s lengths) ⌝ }
 {
-    if mode_wrong(s.kind, s.shift) {
+    if mixing::mode_wrong(s.kind, s.shift) {
         return 1;
     }
     if bounds_wrong(s) {

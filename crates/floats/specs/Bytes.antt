@@ -1,4 +1,5 @@
 -- Bytes as f32 values, and the sum of three products in the order of the code's operations. Definitions only.
+-- Written from `lerp` and `mix_residual` of src/dither.rs: `f32::from` of a byte, and the sums of three products there.
 use Prim.Native.Nat.{ℕ}
 use mathlib.Core.Bool.{false}
 use lib.IntN.{ℤ, pos, _+ℤ_, _-ℤ_, _*ℤ_}

@@ -17,10 +17,10 @@ use Rattle.lists.proofs.FirstLaws.{first-is, first-only}
 use Rattle.color.specs.declared.ReducedColor.{ReducedColor}
 use Rattle.color.specs.Color.{sameReduced}
 use Rattle.color.proofs.Same.{same→equal, same-self}
-use Rattle.judging.specs.Different.{Different, Many}
+use Rattle.lists.specs.Different.{Different, Many}
 use Rattle.judging.specs.Tiles.{tileCount, countsIn, colorsIn, isOver, firstOver, verdictOf, judgedOf, JudgedAs}
 use Rattle.judging.specs.declared.Judged.the-variants.{Fits, Over}
-use Rattle.judging.proofs.DifferentLaws.{Equality, differing-same, different-is, many-if, many-only}
+use Rattle.lists.proofs.DifferentLaws.{Equality, differing-same, different-is, many-if, many-only}
 
 equality : Equality sameReduced
 equality = record { equal = same→equal; self = same-self }

@@ -16,7 +16,7 @@ use Rattle.color.specs.declared.Rgba8888.{Rgba8888}
 use Rattle.color.specs.declared.ReducedColor.{ReducedColor}
 use Rattle.color.specs.Color.{sameReduced, rgba}
 use Rattle.color.proofs.Same.{same→equal, same-self}
-use Rattle.judging.specs.Different.{has, addNew}
+use Rattle.lists.specs.Different.{has, addNew}
 use Rattle.judging.specs.Keys.{colorOf, colorsOf, countWith, keysWith, Turned}
 
 -- ---- colours as numbers

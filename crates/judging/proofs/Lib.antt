@@ -1,5 +1,4 @@
 -- The laws of `judging`.
-pub mod DifferentLaws
 pub mod KeyLaws
 pub mod TileLaws
 pub mod ScanLaws

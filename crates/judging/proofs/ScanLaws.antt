@@ -13,11 +13,11 @@ use lib.ListN.{length}
 use Rattle.lists.proofs.FirstLaws.{Searching, search-begin, search-next, search-found, search-missed}
 use Rattle.color.specs.declared.ReducedColor.{ReducedColor}
 use Rattle.color.specs.Color.{sameReduced}
-use Rattle.judging.specs.Different.{differing}
+use Rattle.lists.specs.Different.{differing}
 use Rattle.judging.specs.Keys.{colorsOf, Turned}
 use Rattle.judging.specs.Tiles.{tilesOver, tileCount, tileOf, countsIn, colorsIn, isOver, firstOver, verdictOf, judgedOf}
 use Rattle.judging.specs.declared.Judged.{Judged}
-use Rattle.judging.proofs.DifferentLaws.{differing-more, differing-skip, differing-grows}
+use Rattle.lists.proofs.DifferentLaws.{differing-more, differing-skip, differing-grows}
 use Rattle.judging.proofs.TileLaws.{next, next-left, ends, row-is, column-is, Place, Inside, tile-below, x-starts, inside-is, inside-of}
 
 module _ (opaque : ℕ → Bool) (color : ℕ → ReducedColor) (w tw th : ℕ) where

@@ -8,7 +8,7 @@ use lib.Dec.{eqb}
 use lib.ListN.{length, take, set}
 use Rattle.color.specs.declared.ReducedColor.{ReducedColor}
 use Rattle.color.specs.Color.{rgba, sameReduced}
-use Rattle.judging.specs.Different.{has, addNew}
+use Rattle.lists.specs.Different.{has, addNew}
 
 -- the colour of a number: red is its lowest byte
 unfoldable pub colorOf : ℕ → ReducedColor

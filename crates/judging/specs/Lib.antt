@@ -1,4 +1,3 @@
--- The definitions of `judging`: different values, the tiles of a picture and their colours, and colours as numbers.
-pub mod Different
+-- The definitions of `judging`: the tiles of a picture and their colours, and colours as numbers.
 pub mod Tiles
 pub mod Keys

@@ -11,7 +11,7 @@ use lib.ListN.{length}
 use Rattle.lists.specs.First.{firstThat}
 use Rattle.color.specs.declared.ReducedColor.{ReducedColor}
 use Rattle.color.specs.Color.{sameReduced}
-use Rattle.judging.specs.Different.{differing}
+use Rattle.lists.specs.Different.{differing}
 use Rattle.judging.specs.declared.Judged.{Judged}
 use Rattle.judging.specs.declared.Judged.the-variants.{Fits, Over}
 

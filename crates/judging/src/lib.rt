@@ -6,7 +6,7 @@ ghost use lib.ListN.{length, take};
 ghost use lib.Dec.{eqb};
 ghost use Rattle.color.specs.Color.{reducedAt};
 ghost use Rattle.picture.specs.Pixels.{isOpaque};
-ghost use Rattle.judging.specs.Different.{has};
+ghost use Rattle.lists.specs.Different.{has};
 ghost use Rattle.judging.specs.Keys.{colorOf, countWith, keysWith, Turned};
 ghost use Rattle.judging.specs.Tiles.{tilesOver, verdictOf, judgedOf, Judgeable};
 

@@ -1,7 +1,9 @@
 -- Tests that are joined, and tests as facts: `T t` from `t ≡ true`, `T (not t)` from `t ≡ false`, and back. Assumes nothing.
 use mathlib.Core.Path.{_≡_, refl, sym, _∙_, subst}
 use mathlib.Core.Bool.{Bool, true, false, not, _&&_, _||_, true≢false}
-use lib.Dec.{T}
+use Prim.Native.Nat.{ℕ}
+use borrow.Author.Tests.{eqb-true, not-false}
+use lib.Dec.{T, eqb}
 
 pub clash : {t : Bool} → t ≡ true → t ≡ false → ⊥
 clash p q = true≢false (sym p ∙ q)
@@ -27,6 +29,10 @@ and-split false t e = absurd (clash e refl)
 pub or-split : (s t : Bool) → s || t ≡ false → (s ≡ false) × (t ≡ false)
 or-split true t e = absurd (clash refl e)
 or-split false t e = (refl, e)
+
+-- numbers that do not differ
+pub equals : (m n : ℕ) → not (eqb m n) ≡ false → m ≡ n
+equals m n e = eqb-true m n (not-false (eqb m n) e)
 
 -- t cannot fail where s holds
 pub contra : (s t : Bool) → (T (not t) → T (not s)) → T s → T t

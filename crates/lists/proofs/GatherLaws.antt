@@ -7,7 +7,7 @@ use Prim.Native.Nat.{ℕ, zero, suc, _+_, _-_, _*_, _/_, _%_, _≤_, _<_}
 use native.Mathlib.Nat.{mul-zero, zero-mul, mul-comm, mul-suc, one-mul, mul-le-mul-left, eq-or-lt-of-le, le-of-suc-le-suc, not-suc-le-zero, div-add-mod, mod-lt, div-lt-iff-lt-mul}
 use native.Mathlib.Numerals.{add-one}
 use native.Mathlib.Omega.{arith}
-use lib.ListN.{length, getD, drop, set, replicate, List·getD-append, length-append, length-drop, replicate-append-replicate}
+use lib.ListN.{length, getD, take, drop, set, replicate, List·getD-append, length-append, length-drop, replicate-append-replicate}
 use lib.Seq.{sets, sets-eq, take-at, drop-length, drop-drop, drop-append-add, getD-append-add, getD-drop, ext-getD}
 use Rattle.lists.specs.Gather.{gather, filled}
 
@@ -90,6 +90,10 @@ module _ {A : Type 0} where
     -- element j of piece i, once it is in place
     pub filled-at : (z : A) (d : List A) (n i j : ℕ) → i < n → j < k → getD (filled k n piece d) (k * i + j) z ≡ getD (piece i) j z
     filled-at z d n i j h l = List·getD-append (gather n piece) (drop (k * n) d) z (k * i + j) (rw (gather-length n) (inside h l)) ∙ gather-at z n i j h l
+
+    -- the part that is filled
+    pub filled-front : (d : List A) (n : ℕ) → take (k * n) (filled k n piece d) ≡ gather n piece
+    filled-front d n = take-at (gather n piece) (drop (k * n) d) (k * n) (gather-length n)
 
     -- what is not filled yet is as it was
     pub filled-rest : (z : A) (d : List A) (n m : ℕ) → k * n ≤ m → getD (filled k n piece d) m z ≡ getD d m z

@@ -6,6 +6,7 @@ pub mod FirstLaws
 pub mod LeastLaws
 pub mod FrontLaws
 pub mod OrderLaws
+pub mod DifferentLaws
 pub mod SlideLaws
 pub mod LowestLaws
 pub mod UniqueLaws

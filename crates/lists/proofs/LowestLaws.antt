@@ -1,14 +1,15 @@
 -- `lowest` of rising replies is the lowest number that applies, and nothing else is; it is 0 exactly where none applies; it is the number of the
--- one that applies where those before it do not. `after`: the result, or what was there. Assumes nothing.
+-- one that applies where those before it do not, and that of the front where one applies there; it is at most any bound of the numbers. `after`:
+-- the result, or what was there. Assumes nothing.
 use mathlib.Core.Path.{_≡_, refl, sym, ap, subst}
 use mathlib.Core.Logic.{_⊎_, inl, inr}
-use mathlib.Core.Bool.{Bool, true, false, cond}
+use mathlib.Core.Bool.{Bool, true, false, cond, _&&_}
 use mathlib.Core.List.{List, [], _∷_, _++_}
 use Prim.Native.Nat.{ℕ, zero, suc, _≤_, _<_}
 use native.Mathlib.Nat.{le-antisymm}
 use native.Mathlib.Omega.{arith}
-use borrow.Author.Tests.{ltb-true}
-use lib.Dec.{T, ltb}
+use borrow.Author.Tests.{ltb-true, leb-true}
+use lib.Dec.{T, ltb, leb}
 use Rattle.lists.specs.Order.{In}
 use Rattle.lists.specs.Lowest.{Reply, lowest, risingFrom, Lowest, after}
 use Rattle.lists.proofs.Bools.{clash, holds, is-true, and-split}
@@ -44,6 +45,28 @@ lowest-none = none-applies 0
 pub lowest-at : (xs : List Reply) (x : Reply) (ys : List Reply) → NoneApplies xs → x .applies ≡ true → lowest (xs ++ x ∷ ys) ≡ x .number
 lowest-at [] x ys a e = rw e
 lowest-at (y ∷ xs) x ys a e = rw (a .0) (lowest-at xs x ys (a .1) e)
+
+-- replies behind one that applies change nothing
+pub lowest-front : (xs ys : List Reply) → (lowest xs ≡ 0 → ⊥) → lowest (xs ++ ys) ≡ lowest xs
+lowest-front [] ys n = absurd (n refl)
+lowest-front (x ∷ xs) ys n = go (x .applies) n (lowest-front xs ys)
+  where
+    go : (t : Bool) → (cond t (x .number) (lowest xs) ≡ 0 → ⊥) → ((lowest xs ≡ 0 → ⊥) → lowest (xs ++ ys) ≡ lowest xs) → cond t (x .number) (lowest (xs ++ ys)) ≡ cond t (x .number) (lowest xs)
+    go true n later = refl
+    go false n later = later n
+
+-- no number exceeds n: for replies that are written out, a computed test
+abbrev pub upto : ℕ → List Reply → Bool
+upto n [] = true
+upto n (x ∷ xs) = leb (x .number) n && upto n xs
+
+pub lowest-upto : (n : ℕ) (xs : List Reply) → T (upto n xs) → lowest xs ≤ n
+lowest-upto n [] h = omega arith
+lowest-upto n (x ∷ xs) h = let b = and-split (leb (x .number) n) (upto n xs) (is-true (upto n (x ∷ xs)) h) in go (x .applies) (leb-true (x .number) n (b .0)) (lowest-upto n xs (holds (b .1)))
+  where
+    go : (t : Bool) → x .number ≤ n → lowest xs ≤ n → cond t (x .number) (lowest xs) ≤ n
+    go true a later = a
+    go false a later = later
 
 -- ---- what it is
 rising-in : (n : ℕ) (xs : List Reply) → T (risingFrom n xs) → (x : Reply) → In x xs → n < x .number

@@ -1,8 +1,8 @@
 -- The eleven kinds of dithering by number, and how each of them dithers. Definitions only.
 -- Written from document 01: "Dither kinds are numbered 0 to 10 in the source's order"; "n being 4, 16, 64 for Bayer, 2 for checker and
--- lines, 4 for stipples"; and the diffusion paragraph, for the kernels.
-use Prim.Native.Nat.{ℕ}
-use mathlib.Core.Bool.{Bool, true, false}
+-- lines, 4 for stipples"; the diffusion paragraph, for the kernels; and "Bounds and replies", for the error cells.
+use Prim.Native.Nat.{ℕ, _*_}
+use mathlib.Core.Bool.{Bool, true, false, cond}
 use mathlib.Core.List.{List, [], _∷_, map}
 use lib.ListN.{getD}
 use Rattle.patterns.specs.declared.Dither.{Dither}
@@ -95,3 +95,7 @@ isDiffusion k = hasKernel (wayOf k)
 -- a diffusion kind's kernel; another kind has no target
 unfoldable pub kernelOf : ℕ → List Target
 kernelOf k = kernelIn (wayOf k)
+
+-- "error cells are three f32 a pixel for diffusion, else none"
+unfoldable pub cellsNeeded : ℕ → ℕ → ℕ
+cellsNeeded k pixels = cond (isDiffusion k) (3 * pixels) 0

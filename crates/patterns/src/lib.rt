@@ -1,9 +1,10 @@
 // Thresholds and kernels: the kinds of dithering by number, the eight threshold matrices, and the two kernels of error
 // diffusion. Names and order are those of src/dither.rs.
 ghost use mathlib.Core.Path.{_≡_};
+ghost use Prim.Native.Nat.{_≤_};
 ghost use lib.Dec.{T};
 ghost use Rattle.patterns.specs.Kernel.{Arrays, atkinson, floydSteinberg};
-ghost use Rattle.patterns.specs.Kinds.{kindOf, isOrdered, isDiffusion};
+ghost use Rattle.patterns.specs.Kinds.{kindOf, isOrdered, isDiffusion, cellsNeeded};
 ghost use Rattle.patterns.specs.Thresholds.{share, entryIn, thresholdAt, thresholdOf};
 
 // A kind of dithering.
@@ -75,6 +76,18 @@ pub fn is_diffusion(kind: u32) -> bool
     ensures { λ r. ⌜ r ≡ isDiffusion kind ⌝ }
 {
     (kind == 9) | (kind == 10)
+}
+
+// How many error cells a picture needs: three a pixel for diffusion, else none. No public call: the caller sees to the
+// size.
+pub fn cells_needed(kind: u32, size: usize) -> usize
+    requires { ⌜ size ≤ 1048576 ⌝ }
+    ensures { λ n. ⌜ n ≡ cellsNeeded kind size ⌝ }
+{
+    if is_diffusion(kind) {
+        return 3 * size;
+    }
+    0
 }
 
 // ---- thresholds

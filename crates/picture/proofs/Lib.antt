@@ -1,2 +1,3 @@
 -- The laws of `picture`.
+pub mod BoundLaws
 pub mod Opaque

@@ -1,7 +1,7 @@
 -- The picture that is drawn over the palette: what fits is ready to be drawn (`ready`), an opaque pixel's choice is an entry (`chosen-among`), whose
 -- index is below 256 (`choices`), and the drawn choices, each with its index and its full precision form, are the buffers of the picture (`finished-all`).
 -- Assumes nothing.
-use mathlib.Core.Path.{_≡_, refl, sym, subst, _∙_, ap}
+use mathlib.Core.Path.{_≡_, sym, subst, _∙_, ap}
 use mathlib.Core.Bool.{true, false}
 use mathlib.Core.List.{List, [], _∷_}
 use Prim.Native.Nat.{ℕ, _*_, _<_}
@@ -10,22 +10,22 @@ use native.Mathlib.Omega.{arith}
 use borrow.Author.Tests.{not-true}
 use lib.ListN.{length}
 use lib.Ieee.{Float}
-use Rattle.lists.proofs.GatherLaws.{gather-same, gather-length}
+use Rattle.lists.proofs.GatherLaws.{gather-same}
 use Rattle.color.specs.declared.ReducedColor.{ReducedColor}
 use Rattle.color.specs.Color.{isTransparent, reducedAt, bytesOf}
 use Rattle.picture.specs.Pixels.{isOpaque, pixelAt}
 use Rattle.picture.proofs.Opaque.{opaque-is}
 use Rattle.shortlist.specs.Candidates.{RangedList}
 use Rattle.drawing.specs.declared.ColorZero.the-variants.{Absent}
-use Rattle.drawing.specs.Drawing.{Among, Drawing, drawn}
-use Rattle.drawing.specs.Lent.{isSkipped, Ready, pixelBytes, reducedBytes}
+use Rattle.drawing.specs.Drawing.{Among, drawn}
+use Rattle.drawing.specs.Lent.{isSkipped, Ready, reducedBytes}
 use Rattle.drawing.proofs.CandidateLaws.{drawn-candidate}
+use Rattle.drawing.proofs.OutputLaws.{bytes-length, bytes-at}
 use Rattle.quantize.specs.declared.Pixel.{Pixel}
 use Rattle.quantize.specs.Quantize as quantize
 use Rattle.quantize.specs.Quantize.{Order, entries, size, paletteOklab, dithererOf, lentOf, quantizing, indexOf, finished, indexBytes, colorBytes, indicesOf, pixelsOf, lengthsOf}
 use Rattle.quantize.specs.Steps.{finishedAt, Fitting, Choices}
 use Rattle.quantize.proofs.IndexLaws.{index-is}
-use Rattle.quantize.proofs.PieceLaws.{rgba-gathered}
 
 -- an opaque pixel is not skipped, where there is no colour zero
 opaque-drawn : (reduction pixels : List ℕ) (i : ℕ) → isOpaque pixels i ≡ true → isSkipped Absent (pixelAt reduction pixels i) ≡ false
@@ -38,11 +38,6 @@ opaque-drawn reduction pixels i e =
 pub chosen-among : (q : Order) → 0 < entries q → RangedList (paletteOklab (q .palette) (q .scale) (entries q)) (entries q)
     → (i : ℕ) → isOpaque (q .pixels) i ≡ true → Among (quantizing q .candidates) (drawn (quantizing q) i)
 chosen-among q some ranged i e = drawn-candidate (quantizing q) some (ranged .range) i (opaque-drawn (q .reduction) (q .pixels) i e)
-
--- colour i of a drawn picture's bytes is pixel i's choice
-pub reduced-at : (d : Drawing) (i : ℕ) → i < d .width * d .height → reducedAt (reducedBytes d) i ≡ drawn d i
-unfolding reducedBytes
-reduced-at d i h = λ t. record { 0 = rgba-gathered (λ j. drawn d j .0) (d .width * d .height) i h t }
 
 module _ (q : Order) (indices out : List ℕ) (cells : List Float) (f : Fitting q (lengthsOf q indices out cells)) (ranged : RangedList (paletteOklab (q .palette) (q .scale) (entries q)) (entries q)) where
   pub ready : (width : ℕ) (oklab : List Float) → oklab ≡ paletteOklab (q .palette) (q .scale) (entries q) → Ready (dithererOf q width) Absent (lentOf q oklab)
@@ -68,11 +63,10 @@ module _ (q : Order) (indices out : List ℕ) (cells : List Float) (f : Fitting 
 
   module _ (reduced : List ℕ) (e : reduced ≡ reducedBytes (quantizing q)) where
     at : (i : ℕ) → i < size q → reducedAt reduced i ≡ drawn (quantizing q) i
-    at i h = ap (λ (l : List ℕ). reducedAt l i) e ∙ reduced-at (quantizing q) i h
+    at i h = ap (λ (l : List ℕ). reducedAt l i) e ∙ bytes-at (quantizing q) i h
 
     long : length reduced ≡ 4 * size q
-    unfolding reducedBytes
-    long = ap length e ∙ gather-length 4 (pixelBytes (quantizing q)) (λ j. refl) (size q)
+    long = ap length e ∙ bytes-length (quantizing q)
 
     pub choices : Choices (q .palette) (q .scale) (entries q) (size q) (q .pixels) reduced
     choices = record {

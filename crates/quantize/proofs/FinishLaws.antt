@@ -10,9 +10,9 @@ use lib.Seq.{sets}
 use Rattle.lists.specs.Gather.{gather}
 use Rattle.lists.proofs.FillLaws.{Filling, fill-begin, fill-store, fill-set, fill-done}
 use Rattle.color.specs.Color.{rgbaAt, bytesOf}
+use Rattle.color.proofs.PieceLaws.{rgba-rest}
 use Rattle.quantize.specs.declared.Pixel.{Pixel}
 use Rattle.quantize.specs.Quantize.{indexBytes, colorBytes}
-use Rattle.quantize.proofs.PieceLaws.{rgba-rest}
 
 -- the first i of the pixels `end` are in place in both buffers, and the rest is as it was
 pub record Finishing (end : ℕ → Pixel) (size : ℕ) (indices₀ out₀ indices out : List ℕ) (i : ℕ) : Type 0 where

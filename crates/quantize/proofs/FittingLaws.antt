@@ -2,17 +2,20 @@
 -- lengths fit (`accepted`). Assumes nothing.
 use mathlib.Core.Path.{_≡_, refl, _∙_}
 use mathlib.Core.Bool.{false, not}
-use Prim.Native.Nat.{ℕ, zero, suc, _*_, _/_, _%_, _≤_, _<_}
+use Prim.Native.Nat.{ℕ, zero, suc, _*_, _/_, _%_, _<_}
 use native.Mathlib.Omega.{arith}
-use borrow.Author.Tests.{ltb-false, eqb-true, eqb-false, not-false}
+use borrow.Author.Tests.{ltb-false, eqb-false, not-false}
 use lib.Dec.{eqb, ltb}
 use Rattle.lists.specs.Lowest.{Lowest}
-use Rattle.lists.proofs.Bools.{or-split}
+use Rattle.lists.proofs.Bools.{or-split, equals}
 use Rattle.lists.proofs.LowestLaws.{lowest-none, lowest-is}
-use Rattle.picture.specs.Bounds.{sizeWrong, tableWrong}
+use Rattle.picture.specs.Bounds.{tableWrong}
+use Rattle.picture.proofs.BoundLaws.{sized}
+use Rattle.patterns.specs.Kinds.{cellsNeeded}
+use Rattle.mixing.specs.Widths.{modeWrong}
 use Rattle.quantize.specs.declared.Reply.the-variants.{Refused}
 use Rattle.quantize.specs.declared.Lengths.{Lengths}
-use Rattle.quantize.specs.Quantize.{Order, size, replyOf, cellsNeeded, lengthsWrong, entriesWrong, table, numberFor}
+use Rattle.quantize.specs.Quantize.{Order, size, replyOf, lengthsWrong, entriesWrong, table, numberFor}
 use Rattle.quantize.specs.Steps.{Fitting}
 
 pub number-is : (shift kind width height : ℕ) (s : Lengths) → Lowest (table shift kind width height s) (numberFor shift kind width height s)
@@ -24,23 +27,12 @@ pub refused : (n : ℕ) → (n ≡ 0 → ⊥) → Refused n ≡ replyOf n
 refused zero h = absurd (h refl)
 refused (suc n) h = refl
 
--- a length that is not wrong
-right : (m n : ℕ) → not (eqb m n) ≡ false → m ≡ n
-right m n e = eqb-true m n (not-false _ e)
-
 -- what is not 0 is more
 some-more : (n : ℕ) → eqb n 0 ≡ false → 0 < n
 some-more n e = let h = eqb-false n 0 e in omega arith
 
-pub sized : (width height : ℕ) → sizeWrong width height ≡ false → (width ≤ 4096) × (height ≤ 4096) × (width * height ≤ 1048576)
-unfolding sizeWrong
-sized width height e =
-    let a = or-split (ltb 4096 width) _ e in
-    let b = or-split (ltb 4096 height) _ (a .1) in
-    (ltb-false 4096 width (a .0), ltb-false 4096 height (b .0), ltb-false 1048576 (width * height) (b .1))
-
 pub accepted : (q : Order) (s : Lengths) → numberFor (q .shift) (q .kind) (q .width) (q .height) s ≡ 0 → Fitting q s
-unfolding numberFor lengthsWrong entriesWrong tableWrong cellsNeeded
+unfolding numberFor modeWrong lengthsWrong entriesWrong tableWrong cellsNeeded
 accepted q s e =
     let n = size q in
     let none = lowest-none (table (q .shift) (q .kind) (q .width) (q .height) s) tt e in
@@ -59,12 +51,12 @@ accepted q s e =
       wide = bounds .0;
       high = bounds .1;
       small = bounds .2;
-      reduction = right _ _ (l1 .0);
-      scale = right _ _ (l2 .0);
-      pixels = right _ _ (l4 .0);
-      indices = right _ _ (l5 .0);
-      out = right _ _ (l6 .0);
-      cells = λ d. right _ _ (l6 .1) ∙ rw d;
+      reduction = equals _ _ (l1 .0);
+      scale = equals _ _ (l2 .0);
+      pixels = equals _ _ (l4 .0);
+      indices = equals _ _ (l5 .0);
+      out = equals _ _ (l6 .0);
+      cells = λ d. equals _ _ (l6 .1) ∙ rw d;
       some = some-more _ (p .0);
       few = ltb-false 256 (s .palette / 4) (p .1);
     }

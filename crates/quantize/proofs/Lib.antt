@@ -2,7 +2,6 @@
 pub mod Unique
 pub mod PixelLaws
 pub mod IndexLaws
-pub mod PieceLaws
 pub mod PaletteLaws
 pub mod FittingLaws
 pub mod DrawnLaws

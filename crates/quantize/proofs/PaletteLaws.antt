@@ -6,22 +6,20 @@ use Prim.Native.Nat.{ℕ, _+_, _*_, _<_}
 use native.Mathlib.Nat.{not-suc-le-zero, le-of-eq}
 use borrow.Author.Count.{below-more}
 use lib.Dec.{T}
-use lib.ListN.{length, getD, drop, take}
-use lib.Seq.{take-at}
+use lib.ListN.{length, getD, take}
 use lib.Ieee.{Float}
-use Rattle.lists.specs.Gather.{gather}
-use Rattle.lists.proofs.GatherLaws.{gather-length}
+use Rattle.lists.proofs.GatherLaws.{gather-length, filled-front}
 use Rattle.lists.proofs.FillLaws.{Filling}
 use Rattle.color.specs.declared.Oklab.{Oklab}
 use Rattle.color.specs.Tables.{normalizeColor}
 use Rattle.color.specs.Oklab.{allInRange, floatsOf}
 use Rattle.color.proofs.Distances.{range-all-in}
+use Rattle.color.proofs.PieceLaws.{oklab-gathered}
 use Rattle.conversion.specs.Oklab.{toOklab}
 use Rattle.conversion.proofs.OklabLaws.{ranged}
 use Rattle.shortlist.specs.Candidates.{normals, RangedList}
 use Rattle.quantize.specs.Quantize.{paletteOklab}
 use Rattle.quantize.specs.Steps.{Converted}
-use Rattle.quantize.proofs.PieceLaws.{oklab-gathered}
 
 module _ (palette scale : List ℕ) where
   abbrev pub entryOklab : ℕ → Oklab
@@ -58,7 +56,7 @@ module _ (palette scale : List ℕ) where
   pub converted : (n : ℕ) (was room : List Float) → Filling 3 entryFloats was room n → InRange n → Converted palette scale n room
   unfolding paletteOklab
   converted n was room f r = record {
-    front = ap (take (3 * n)) (f .so-far) ∙ take-at (gather n entryFloats) (drop (3 * n) was) (3 * n) (gather-length 3 entryFloats (λ k. refl) n);
+    front = ap (take (3 * n)) (f .so-far) ∙ filled-front 3 entryFloats (λ k. refl) was n;
     ranged = palette-in n r;
   }
 

@@ -12,6 +12,7 @@ use Rattle.lists.specs.Lowest.{after}
 use Rattle.lists.proofs.GatherLaws.{gather-at}
 use Rattle.color.specs.Color.{normalizedAt, bytesOf, transparentNormalized}
 use Rattle.color.specs.Tables.{normalizeColor}
+use Rattle.color.proofs.PieceLaws.{rgba-gathered}
 use Rattle.picture.specs.Pixels.{isOpaque}
 use Rattle.drawing.specs.Drawing.{drawn}
 use Rattle.quantize.specs.declared.Reply.{Reply}
@@ -19,7 +20,6 @@ use Rattle.quantize.specs.declared.Reply.the-variants.{Accepted}
 use Rattle.quantize.specs.declared.Pixel.{Pixel}
 use Rattle.quantize.specs.Quantize.{Order, entries, size, quantizing, IndexOf, finished, pixelAt, indexAt, colorAt, indexBytes, colorBytes, indicesOf, pixelsOf, numberOf, Quantized}
 use Rattle.quantize.proofs.IndexLaws.{index-is}
-use Rattle.quantize.proofs.PieceLaws.{rgba-gathered}
 use Rattle.quantize.proofs.PaletteLaws.{palette-ranged}
 use Rattle.quantize.proofs.DrawnLaws.{chosen-among}
 

@@ -20,8 +20,8 @@ use Rattle.color.specs.Oklab.{floatsOf}
 use Rattle.picture.specs.Bounds.{sizeWrong, tableWrong}
 use Rattle.picture.specs.Pixels.{isOpaque}
 use Rattle.conversion.specs.Oklab.{toOklab}
-use Rattle.patterns.specs.Kinds.{isDiffusion}
-use Rattle.mixing.specs.Widths.{isShift, widthOf}
+use Rattle.patterns.specs.Kinds.{cellsNeeded}
+use Rattle.mixing.specs.Widths.{modeWrong, widthOf}
 use Rattle.shortlist.specs.Candidates.{normals}
 use Rattle.drawing.specs.declared.Ditherer.{Ditherer}
 use Rattle.drawing.specs.declared.ColorZero.the-variants.{Absent}
@@ -126,10 +126,6 @@ lengthsOf q indices out cells = record {
   cells = length cells;
 }
 
--- "error cells are three f32 a pixel for diffusion, else none"
-unfoldable pub cellsNeeded : ℕ → ℕ → ℕ
-cellsNeeded kind pixels = cond (isDiffusion kind) (3 * pixels) 0
-
 -- a lent length is wrong, for a kind and a number of pixels
 unfoldable pub lengthsWrong : ℕ → ℕ → Lengths → Bool
 lengthsWrong kind n s =
@@ -143,7 +139,7 @@ entriesWrong n = eqb n 0 || ltb 256 n
 -- the rows of document 01's table that this call can answer with
 abbrev pub table : (shift kind width height : ℕ) → Lengths → List lowest.Reply
 table shift kind width height s =
-    1 if (ltb 10 kind || not (isShift shift))
+    1 if modeWrong kind shift
     ∷ 2 if sizeWrong width height
     ∷ 3 if lengthsWrong kind (width * height) s
     ∷ 4 if entriesWrong (s .palette / 4)

@@ -6,17 +6,16 @@ use color::ReducedColor;
 use drawing::ColorZero;
 use drawing::Ditherer;
 ghost use mathlib.Core.Path.{_≡_};
-ghost use mathlib.Core.Bool.{true, not, _||_};
+ghost use mathlib.Core.Bool.{true};
 ghost use Prim.Native.Nat.{_+_, _*_, _<_, _≤_};
-ghost use lib.Dec.{T, ltb};
+ghost use lib.Dec.{T};
 ghost use lib.ListN.{length};
 ghost use Rattle.color.specs.Oklab.{allInRange};
 ghost use Rattle.conversion.specs.Linear.{values};
 ghost use Rattle.conversion.specs.Oklab.{toOklab};
 ghost use Rattle.shortlist.specs.Candidates.{normals};
-ghost use Rattle.mixing.specs.Widths.{isShift};
 ghost use Rattle.drawing.specs.Lent.{cellsAfter};
-ghost use Rattle.quantize.specs.Quantize.{order, quantizing, indexOf, finished, indexBytes, colorBytes, indicesOf, pixelsOf, lengthsOf, cellsNeeded, lengthsWrong, entriesWrong, numberFor, Quantized};
+ghost use Rattle.quantize.specs.Quantize.{order, quantizing, indexOf, finished, indexBytes, colorBytes, indicesOf, pixelsOf, lengthsOf, lengthsWrong, entriesWrong, numberFor, Quantized};
 ghost use Rattle.quantize.specs.Steps.{finishedAt, Fitting, Choices, Converted};
 
 // What `quantize_pixels` answers.
@@ -44,18 +43,6 @@ pub struct Pixel {
 
 // ---- refusals
 
-// How many error cells a picture needs: three a pixel for diffusion, else none. No public call: the caller sees to the
-// size.
-fn cells_needed(kind: u32, size: usize) -> usize
-    requires { ⌜ size ≤ 1048576 ⌝ }
-    ensures { λ n. ⌜ n ≡ cellsNeeded kind size ⌝ }
-{
-    if patterns::is_diffusion(kind) {
-        return 3 * size;
-    }
-    0
-}
-
 // Whether a lent length is wrong. No public call: the caller sees to the size.
 fn lengths_wrong(kind: u32, size: usize, s: Lengths) -> bool
     requires { ⌜ size ≤ 1048576 ⌝ }
@@ -66,7 +53,8 @@ fn lengths_wrong(kind: u32, size: usize, s: Lengths) -> bool
             | ((s.palette % 4 != 0)
                 | ((s.pixels != 4 * size)
                     | ((s.indices != size)
-                        | ((s.out != 4 * size) | (s.cells != cells_needed(kind, size)))))))
+                        | ((s.out != 4 * size)
+                            | (s.cells != patterns::cells_needed(kind, size)))))))
 }
 
 // Whether the palette has not 1 to 256 entries.
@@ -76,18 +64,11 @@ fn entries_wrong(count: usize) -> bool
     (count == 0) | (256 < count)
 }
 
-// Whether there is no such kind, or no mode with that shift.
-fn mode_wrong(shift: u32, kind: u32) -> bool
-    ensures { λ t. ⌜ t ≡ ltb 10 kind || not (isShift shift) ⌝ }
-{
-    (10 < kind) | !mixing::is_shift(shift)
-}
-
 // The number of the answer: 0 where the picture is accepted, else the lowest that applies.
 fn refusal(shift: u32, kind: u32, width: u32, height: u32, s: Lengths) -> u8
     ensures { λ n. ⌜ n ≡ numberFor shift kind width height s ⌝ }
 {
-    if mode_wrong(shift, kind) {
+    if mixing::mode_wrong(kind, shift) {
         return 1;
     }
     if picture::size_wrong(width, height) {

@@ -28,7 +28,7 @@ pub fn piece(bytes: &[u8], from: usize, to: usize) -> &[u8] {
     &bytes[..0]
 }
 
-// The place after a line from `at` up to `end`, past its newline.
+// The place after a line from `at` up to `end`, past its newline. No public call: the caller sees to the places.
 pub fn past(at: usize, end: usize, len: usize) -> usize
     requires { ⌜ (at ≤ end) × (end ≤ len) × (at < len) ⌝ }
     ensures { λ r. ⌜ (at < r) × (r ≤ len) ⌝ }

@@ -5,7 +5,7 @@ use native.Mathlib.Omega.{arith}
 use Rattle.lists.specs.Lowest.{lowest}
 use Rattle.candidates.proofs.RoomLaws.{count-within}
 use Rattle.dither.specs.Mode.{Order, Buffers, order, buffers, candidateList, lengthsOf, checks}
-use Rattle.dither.proofs.NumberLaws.{accepted, roomy}
+use Rattle.dither.proofs.NumberLaws.{accepted, room}
 use Rattle.dither.proofs.CandidateLaws.{collected, uncollected, roomed}
 use Rattle.dither.proofs.CallLaws.{call-refused, call-full, call-completed}
 use borrow.Author.Needs.{needs}
@@ -48,7 +48,7 @@ collect-candidates-requires : tie.Need-collect-candidates-requires
 collect-candidates-requires c κs =
     let e = c .before .before .before .before in
     let w = accepted (asked (start e)) (held (start e)) (free e) in
-    let r = roomy (asked (start e)) (held (start e)) (free e) in
+    let r = room (asked (start e)) (held (start e)) (free e) in
     (w .reduction, w .scale, omega (arith, w .pixels), omega (arith, r .1))
 
 enum-known-count : tie.Need-enum-known-count
@@ -76,7 +76,7 @@ dither-requires c κs =
     let n = c .before .before .before .before .before .count .given .1 in
     let e = c .before .before .before .before .before .before .before .before .before .before .before .before .before .before .before .before in
     let s = start e in
-    let r = roomy (asked s) (held s) (free e) in
+    let r = room (asked s) (held s) (free e) in
     (accepted (asked s) (held s) (free e), roomed (asked s) k n (r .1), omega (arith, r .0, count-within {cs = candidateList (asked s)} k n))
 
 same-length-3 : tie.Need-same-length-3

@@ -3,7 +3,8 @@ use mathlib.Core.Path.{_≡_, sym, _∙_}
 use mathlib.Core.Bool.{false}
 use Prim.Native.Nat.{_*_, _≤_}
 use native.Mathlib.Omega.{arith}
-use Rattle.dither.specs.Mode.{modeWrong, boundsWrong, lengthsWrong}
+use Rattle.mixing.specs.Widths.{modeWrong}
+use Rattle.dither.specs.Mode.{boundsWrong, lengthsWrong}
 use Rattle.dither.proofs.NumberLaws.{bounded}
 use borrow.Author.Needs.{needs}
 use Rattle.dither.proofs.refusal.Statement.{statement}

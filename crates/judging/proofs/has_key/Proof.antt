@@ -6,7 +6,7 @@ use native.Mathlib.Omega.{arith}
 use borrow.Author.Needs.{needs}
 use lib.Dec.{eqb}
 use lib.ListN.{take, drop}
-use Rattle.judging.specs.Different.{has}
+use Rattle.lists.specs.Different.{has}
 use Rattle.judging.proofs.KeyLaws.{key-here, key-later, key-missed}
 use Rattle.judging.proofs.has_key.Statement.{statement}
 use Rattle.judging.proofs.has_key.Tie as tie

@@ -1,19 +1,18 @@
 -- `quantize::refusal` meets its contract: the tests are the definition's, in the order of the numbers. Assumes nothing.
 use mathlib.Core.Path.{_≡_, sym, _∙_}
-use mathlib.Core.Bool.{false, not, _||_}
+use mathlib.Core.Bool.{false}
 use Prim.Native.Nat.{_*_, _≤_}
 use native.Mathlib.Omega.{arith}
-use lib.Dec.{ltb}
 use Rattle.picture.specs.Bounds.{sizeWrong}
-use Rattle.mixing.specs.Widths.{isShift}
+use Rattle.picture.proofs.BoundLaws.{sized}
+use Rattle.mixing.specs.Widths.{modeWrong}
 use Rattle.quantize.specs.Quantize.{lengthsWrong, numberFor}
-use Rattle.quantize.proofs.FittingLaws.{sized}
 use borrow.Author.Needs.{needs}
 use Rattle.quantize.proofs.refusal.Statement.{statement}
 use Rattle.quantize.proofs.refusal.Tie as tie
 
 -- past each test, what it asks is not so
-mode-right : (c : tie.Else1) → (ltb 10 (c .before .before .args .kind) || not (isShift (c .before .before .args .shift))) ≡ false
+mode-right : (c : tie.Else1) → modeWrong (c .before .before .args .kind) (c .before .before .args .shift) ≡ false
 mode-right c = sym (c .before .mode-wrong .ensures) ∙ c .if1 .left
 
 size-right : (c : tie.Else2) → sizeWrong (c .before .before .before .before .args .width) (c .before .before .before .before .args .height) ≡ false

@@ -12,10 +12,10 @@ use native.Mathlib.Omega.{arith}
 use lib.Dec.{T, T-not}
 use lib.ListN.{length, take, length-append}
 use lib.Seq.{length-take-le}
 use Rattle.lists.specs.Order.{In}
 use Rattle.lists.proofs.Bools.{clash, holds, fails}
 use Rattle.lists.proofs.OrderLaws.{all-in, all-of, ordered-once}
-use Rattle.judging.specs.Different.{has, addNew, Once, differing, Occurs, Different, Many}
+use Rattle.lists.specs.Different.{has, addNew, Once, differing, Occurs, Different, Many}
 
 module _ {A : Type 0} where
   -- ---- members of a list with one more behind

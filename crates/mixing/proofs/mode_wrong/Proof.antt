@@ -1,8 +1,8 @@
--- `dither::mode_wrong` meets its contract: its two tests are the definition's. Assumes nothing.
-use Rattle.dither.specs.Mode.{modeWrong}
+-- `mixing::mode_wrong` meets its contract: its two tests are the definition's. Assumes nothing.
+use Rattle.mixing.specs.Widths.{modeWrong}
 use borrow.Author.Needs.{needs}
-use Rattle.dither.proofs.mode_wrong.Statement.{statement}
-use Rattle.dither.proofs.mode_wrong.Tie as tie
+use Rattle.mixing.proofs.mode_wrong.Statement.{statement}
+use Rattle.mixing.proofs.mode_wrong.Tie as tie
 
 is-shift-requires : tie.Need-is-shift-requires
 is-shift-requires c κs = search needs

@@ -1,8 +1,8 @@
--- `quantize::cells_needed` meets its contract, by the kind's test. Assumes nothing.
+-- `patterns::cells_needed` meets its contract, by the kind's test. Assumes nothing.
 use borrow.Author.Needs.{needs}
-use Rattle.quantize.specs.Quantize.{cellsNeeded}
-use Rattle.quantize.proofs.cells_needed.Statement.{statement}
-use Rattle.quantize.proofs.cells_needed.Tie as tie
+use Rattle.patterns.specs.Kinds.{cellsNeeded}
+use Rattle.patterns.proofs.cells_needed.Statement.{statement}
+use Rattle.patterns.proofs.cells_needed.Tie as tie
 
 is-diffusion-requires : tie.Need-is-diffusion-requires
 is-diffusion-requires c κs = search needs
