@@ -55,10 +55,10 @@ module _ (t : Ditherer) (cs : Candidates) (memory : List ℕ) where
   remembers-of b e = subst (λ (x : Bool). RemembersBy x cs (t .«bracket_width») memory) (sym e)
 
 -- nothing is remembered yet
-pub remembers-none : (t : Ditherer) (cs : Candidates) → Remembers t cs (replicate 801 0)
+pub remembers-none : (t : Ditherer) (cs : Candidates) → Remembers t cs (replicate 897 0)
 remembers-none t cs = go (isOrdered (t .kind))
   where
-    go : (b : Bool) → RemembersBy b cs (t .«bracket_width») (replicate 801 0)
+    go : (b : Bool) → RemembersBy b cs (t .«bracket_width») (replicate 897 0)
     go true = record { pairs = kept-none (nearestBoth cs (t .«bracket_width»)); shorts = shorts-none (shortOf (cs .oklab) (cs .count) (t .«bracket_width»)) }
     go false = kept-none (nearestAlone (cs .oklab) (cs .count))
 

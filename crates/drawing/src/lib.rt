@@ -62,7 +62,7 @@ fn nearest_color(
     oklab: &[f32],
     count: usize,
     color: NormalizedColor,
-    memory: &mut [u64; 801],
+    memory: &mut [u64; 897],
 ) -> ReducedColor
     requires { ⌜ Linear (now linear) × Choosable (now colors) (now scale) (now oklab) count × Kept (nearestAlone (oklabAt (now oklab)) count) (now memory) ⌝ }
     ensures { λ c. ⌜ (c ≡ nearestColor (scaled (now (colors .entry)) (now (scale .entry)) (now (oklab .entry)) count) color)
@@ -116,7 +116,7 @@ impl Ditherer {
         count: usize,
         i: usize,
         color: NormalizedColor,
-        memory: &mut [u64; 801],
+        memory: &mut [u64; 897],
     ) -> ReducedColor
         requires { ⌜ Linear (now linear) × Choosable (now colors) (now scale) (now oklab) count × Inside self i × (isOrdered (self .kind) ≡ true)
             × KeptBoth (scaled (now colors) (now scale) (now oklab) count) (self .«bracket_width») (now memory) ⌝ }
@@ -152,7 +152,7 @@ impl Ditherer {
         count: usize,
         i: usize,
         color: NormalizedColor,
-        memory: &mut [u64; 801],
+        memory: &mut [u64; 897],
     ) -> ReducedColor
         requires { ⌜ Linear (now linear) × Choosable (now colors) (now scale) (now oklab) count × Inside self i
             × Remembers self (scaled (now colors) (now scale) (now oklab) count) (now memory) ⌝ }
@@ -177,7 +177,7 @@ impl Ditherer {
         count: usize,
         i: usize,
         color: NormalizedColor,
-        memory: &mut [u64; 801],
+        memory: &mut [u64; 897],
         cells: &mut [f32],
     ) -> ReducedColor
         requires { ⌜ Linear (now linear) × Choosable (now colors) (now scale) (now oklab) count × Inside self i × (isDiffusion (self .kind) ≡ true)
@@ -219,7 +219,7 @@ impl Ditherer {
         oklab: &[f32],
         count: usize,
         i: usize,
-        memory: &mut [u64; 801],
+        memory: &mut [u64; 897],
     ) -> ReducedColor
         requires { ⌜ Linear (now linear) × Ready self zero (lent (now reduction) (now scale) (now pixels) (now colors) (now oklab) count)
             × (isDiffusion (self .kind) ≡ false) × (i < self .width * self .height)
@@ -248,7 +248,7 @@ impl Ditherer {
         oklab: &[f32],
         count: usize,
         i: usize,
-        memory: &mut [u64; 801],
+        memory: &mut [u64; 897],
         cells: &mut [f32],
     ) -> ReducedColor
         requires { ⌜ Linear (now linear) × Ready self zero (lent (now reduction) (now scale) (now pixels) (now colors) (now oklab) count)
@@ -280,7 +280,7 @@ impl Ditherer {
         colors: &[u8],
         oklab: &[f32],
         count: usize,
-        memory: &mut [u64; 801],
+        memory: &mut [u64; 897],
         out: &mut [u8],
     )
         requires { ⌜ Linear (now linear) × Ready self zero (lent (now reduction) (now scale) (now pixels) (now colors) (now oklab) count)
@@ -319,7 +319,7 @@ impl Ditherer {
         colors: &[u8],
         oklab: &[f32],
         count: usize,
-        memory: &mut [u64; 801],
+        memory: &mut [u64; 897],
         out: &mut [u8],
         cells: &mut [f32],
     )
@@ -371,7 +371,7 @@ impl Ditherer {
             × (now (cells .exit) ≡ cellsAfter (drawingOf self zero (lent (now (reduction .entry)) (now (scale .entry)) (now (pixels .entry)) (now (colors .entry)) (now (oklab .entry)) count)) (now (cells .entry))) ⌝ }
     {
         let linear = conversion::linear::linear_table();
-        let mut memory = [0u64; 801];
+        let mut memory = [0u64; 897];
         if patterns::is_diffusion(self.kind) {
             self.draw_diffused(
                 zero,

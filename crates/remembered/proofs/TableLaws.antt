@@ -53,7 +53,7 @@ module _ (f : NormalizedColor → Two) (memory : List ℕ) (kept : Kept f memory
   kept-pair c j s l e = let back : getD memory j 0 % 68719476736 + 1 - 1 ≡ getD memory j 0 % 68719476736 = omega arith in ap pairWith back ∙ kept .right j l c s e
 
   -- a word that changes to one that is right
-  stored : (j w : ℕ) → j < 801 → (j < 256 → (c : NormalizedColor) → Bytes c → w / 68719476736 ≡ keyOf c → pairWith (w % 68719476736) ≡ f c) → Kept f (set memory j w)
+  stored : (j w : ℕ) → j < 897 → (j < 256 → (c : NormalizedColor) → Bytes c → w / 68719476736 ≡ keyOf c → pairWith (w % 68719476736) ≡ f c) → Kept f (set memory j w)
   stored j w h right = record { room = simp length-set (kept .room); right = λ i l. go i l (eqb i j) refl }
     where
       go : (i : ℕ) → i < 256 → (t : Bool) → eqb i j ≡ t → (c : NormalizedColor) → Bytes c → getD (set memory j w) i 0 / 68719476736 ≡ keyOf c
@@ -76,9 +76,9 @@ module _ (f : NormalizedColor → Two) (memory : List ℕ) (kept : Kept f memory
   kept-last k = stored 256 k (lit< tt) (λ l. absurd (omega arith))
 
 -- nothing is remembered yet
-pub kept-none : (f : NormalizedColor → Two) → Kept f (replicate 801 0)
+pub kept-none : (f : NormalizedColor → Two) → Kept f (replicate 897 0)
 unfolding keyOf
-kept-none f = record { room = length-replicate 801 zero; right = λ j l c s e. absurd (none c (sym (ap (λ (w : ℕ). w / 68719476736) (getD-replicate 801 j zero zero (omega arith))) ∙ e)) }
+kept-none f = record { room = length-replicate 897 zero; right = λ j l c s e. absurd (none c (sym (ap (λ (w : ℕ). w / 68719476736) (getD-replicate 897 j zero zero (omega arith))) ∙ e)) }
   where
     none : (c : NormalizedColor) → 0 / 68719476736 ≡ keyOf c → ⊥
     none c e = omega arith

@@ -43,7 +43,7 @@ pairWith x = record { first = x / 262144; second = secondWith (x % 262144) }
 
 -- a word is a key times 2^36, and a pair's number: each of the first 256 that has a colour's key has what f answers for that colour
 pub record Kept (f : NormalizedColor → Two) (memory : List ℕ) : Type 0 where
-  pub room : length memory ≡ 801
+  pub room : length memory ≡ 897
   pub right : (j : ℕ) → j < 256 → (c : NormalizedColor) → Bytes c → getD memory j 0 / 68719476736 ≡ keyOf c → pairWith (getD memory j 0 % 68719476736) ≡ f c
 
 -- f answers by red, green and blue alone

@@ -1,6 +1,6 @@
 // Answers remembered by colour, so that a colour that comes again is not looked up again. The original keeps a `HashMap` of
 // brackets; here it is a lent table of 256 words, one for each hash, behind them the position that was found last, which is
-// where the next search begins, and then 32 rows of shortlists.
+// where the next search begins, and then 128 rows of shortlists.
 pub mod shorts;
 
 use color::NormalizedColor;
@@ -93,8 +93,8 @@ fn pair_with(x: u64) -> Two
 // ---- the table
 
 // What is remembered of a colour: its pair's number and one more, or 0.
-fn recalled(memory: &[u64; 801], c: NormalizedColor) -> u64
-    requires { ⌜ length (now memory) ≡ 801 ⌝ }
+fn recalled(memory: &[u64; 897], c: NormalizedColor) -> u64
+    requires { ⌜ length (now memory) ≡ 897 ⌝ }
     ensures { λ r. ⌜ ((f : NormalizedColor → Two) → Kept f (now (memory .entry)) → 0 < r → pairWith (r - 1) ≡ f c) ⌝ }
 {
     let key = key_of(c);
@@ -106,8 +106,8 @@ fn recalled(memory: &[u64; 801], c: NormalizedColor) -> u64
 }
 
 // Remembers a colour's pair, if it has a number.
-fn keep(memory: &mut [u64; 801], c: NormalizedColor, pair: Two)
-    requires { ⌜ length (now memory) ≡ 801 ⌝ }
+fn keep(memory: &mut [u64; 897], c: NormalizedColor, pair: Two)
+    requires { ⌜ length (now memory) ≡ 897 ⌝ }
     ensures { λ _. ⌜ ((f : NormalizedColor → Two) → ByRgb f → pair ≡ f c → Kept f (now (memory .entry)) → Kept f (now (memory .exit)))
         × ((g : ℕ → List ℕ) → Shorts g (now (memory .entry)) → Shorts g (now (memory .exit))) ⌝ }
 {
@@ -119,8 +119,8 @@ fn keep(memory: &mut [u64; 801], c: NormalizedColor, pair: Two)
 }
 
 // The position that was found last, or 0 where the list has not as many.
-fn last_of(memory: &[u64; 801], count: usize) -> usize
-    requires { ⌜ (length (now memory) ≡ 801) × (0 < count) ⌝ }
+fn last_of(memory: &[u64; 897], count: usize) -> usize
+    requires { ⌜ (length (now memory) ≡ 897) × (0 < count) ⌝ }
     ensures { λ k. ⌜ k < count ⌝ }
 {
     let k = memory[256] as usize;
@@ -128,8 +128,8 @@ fn last_of(memory: &[u64; 801], count: usize) -> usize
 }
 
 // Notes the position that was found.
-fn note_last(memory: &mut [u64; 801], k: usize)
-    requires { ⌜ length (now memory) ≡ 801 ⌝ }
+fn note_last(memory: &mut [u64; 897], k: usize)
+    requires { ⌜ length (now memory) ≡ 897 ⌝ }
     ensures { λ _. ⌜ ((f : NormalizedColor → Two) → Kept f (now (memory .entry)) → Kept f (now (memory .exit)))
         × ((g : ℕ → List ℕ) → Shorts g (now (memory .entry)) → Shorts g (now (memory .exit))) ⌝ }
 {
@@ -159,7 +159,7 @@ pub fn nearest_position(
     oklab: &[f32],
     count: usize,
     color: NormalizedColor,
-    memory: &mut [u64; 801],
+    memory: &mut [u64; 897],
 ) -> usize
     requires { ⌜ (now linear ≡ values) × (0 < count) × RangedList (now oklab) count × Kept (nearestAlone (oklabAt (now oklab)) count) (now memory) ⌝ }
     ensures { λ k. ⌜ (k ≡ nearestIn (oklabAt (now (oklab .entry))) count (toOklab color))
@@ -191,7 +191,7 @@ fn pair_anew(
     width: u64,
     color: NormalizedColor,
     seed: usize,
-    memory: &mut [u64; 801],
+    memory: &mut [u64; 897],
 ) -> Two
     requires { ⌜ (now linear ≡ values) × (4 * count ≤ length (now colors)) × (length (now scale) ≡ 256) × RangedList (now oklab) count × (seed < count)
         × KeptBoth (scaled (now colors) (now scale) (now oklab) count) width (now memory) ⌝ }
@@ -218,7 +218,7 @@ fn pair_positions(
     count: usize,
     width: u64,
     color: NormalizedColor,
-    memory: &mut [u64; 801],
+    memory: &mut [u64; 897],
 ) -> Two
     requires { ⌜ (now linear ≡ values) × (0 < count) × (4 * count ≤ length (now colors)) × (length (now scale) ≡ 256) × RangedList (now oklab) count
         × KeptBoth (scaled (now colors) (now scale) (now oklab) count) width (now memory) ⌝ }
@@ -256,7 +256,7 @@ pub fn bracket_positions(
     count: usize,
     width: u64,
     color: NormalizedColor,
-    memory: &mut [u64; 801],
+    memory: &mut [u64; 897],
 ) -> BracketAt
     requires { ⌜ (now linear ≡ values) × (0 < count) × (4 * count ≤ length (now colors)) × (length (now scale) ≡ 256) × RangedList (now oklab) count
         × KeptBoth (scaled (now colors) (now scale) (now oklab) count) width (now memory) ⌝ }

@@ -1,4 +1,4 @@
-// Shortlists remembered by the entry that they belong to, in 32 rows of the lent memory.
+// Shortlists remembered by the entry that they belong to, in 128 rows of the lent memory.
 use mixing::clamp_width;
 ghost use mathlib.Core.Path.{_≡_};
 ghost use Prim.Native.Nat.{ℕ, _+_, _-_, _*_, _%_, _<_, _≤_, min};
@@ -7,14 +7,13 @@ ghost use lib.ListN.{length, getD, take};
 ghost use Rattle.color.specs.Oklab.{oklabAt};
 ghost use Rattle.mixing.specs.Widths.{clampWidth};
 ghost use Rattle.shortlist.specs.Candidates.{RangedList};
-ghost use Rattle.remembered.specs.Table.{Kept};
-ghost use Rattle.remembered.specs.Shorts.{shortOf, Shorts, Elsewhere, CopiedIn, CopiedOut};
+ghost use Rattle.remembered.specs.Shorts.{shortOf, digitOf, Packed, Shorts, CopiedIn, CopiedOut};
 
 // Where the row of an entry begins.
 fn row_of(a: usize) -> usize
-    ensures { λ p. ⌜ p ≡ 257 + 17 * (a % 32) ⌝ }
+    ensures { λ p. ⌜ p ≡ 257 + 5 * (a % 128) ⌝ }
 {
-    257 + 17 * (a % 32)
+    257 + 5 * (a % 128)
 }
 
 // How many entries a shortlist has.
@@ -29,38 +28,64 @@ fn length_of(n: usize, width: u64) -> usize
     n - 1
 }
 
-// Copies m words from p on to the positions.
-fn copy_out(memory: &[u64; 801], p: usize, m: usize, positions: &mut [usize; 16])
-    requires { ⌜ (length (now memory) ≡ 801) × (length (now positions) ≡ 16) × (m ≤ 16) × (p + m ≤ 801) ⌝ }
+// Copies m positions from the words from p on.
+fn copy_out(memory: &[u64; 897], p: usize, m: usize, positions: &mut [usize; 16])
+    requires { ⌜ (length (now memory) ≡ 897) × (length (now positions) ≡ 16) × (m ≤ 16) × (p + 4 ≤ 897) ⌝ }
     ensures { λ _. ⌜ CopiedOut (now (memory .entry)) p m (now (positions .exit)) ⌝ }
 {
     let mut i = 0;
     while i < m {
-        positions[i] = memory[p + i] as usize;
+        positions[i] = digit(memory[p + i / 4], i % 4);
         i += 1;
     }
 }
 
-// Copies the first m positions to the words from p on.
-fn copy_in(memory: &mut [u64; 801], p: usize, m: usize, positions: &[usize; 16])
-    requires { ⌜ (length (now memory) ≡ 801) × (length (now positions) ≡ 16) × (m ≤ 16) × (p + m ≤ 801) ⌝ }
-    ensures { λ _. ⌜ CopiedIn (now (positions .entry)) p m (now (memory .entry)) (now (memory .exit)) ⌝ }
+// Number j of a word.
+fn digit(x: u64, j: usize) -> usize
+    requires { ⌜ j < 4 ⌝ }
+    ensures { λ r. ⌜ r ≡ digitOf x j ⌝ }
 {
-    let mut i = 0;
-    while i < m {
-        memory[p + i] = positions[i] as u64;
-        i += 1;
+    ((x >> (16 * j)) % 65536) as usize
+}
+
+// Four positions in a word; what is above 16 bits is lost.
+fn packed(a: usize, b: usize, c: usize, d: usize) -> u64
+    ensures { λ x. ⌜ Packed a b c d x ⌝ }
+{
+    let low = (a % 65536) as u64 + (b % 65536) as u64 * 65536;
+    let high = (c % 65536) as u64 + (d % 65536) as u64 * 65536;
+    low + high * 4294967296
+}
+
+// Packs the positions into the four words from p on.
+fn copy_in(memory: &mut [u64; 897], p: usize, positions: &[usize; 16])
+    requires { ⌜ (length (now memory) ≡ 897) × (length (now positions) ≡ 16) × (p + 4 ≤ 897) ⌝ }
+    ensures { λ _. ⌜ CopiedIn (now (positions .entry)) p 4 (now (memory .entry)) (now (memory .exit)) ⌝ }
+{
+    let mut w = 0;
+    while w < 4 {
+        let i = 4 * w;
+        memory[p + w] = packed(
+            positions[i],
+            positions[i + 1],
+            positions[i + 2],
+            positions[i + 3],
+        );
+        w += 1;
     }
 }
 
-// Remembers entry a's shortlist.
-fn keep_short(memory: &mut [u64; 801], a: usize, m: usize, positions: &[usize; 16])
-    requires { ⌜ (length (now memory) ≡ 801) × (length (now positions) ≡ 16) × (m ≤ 16) × (a < 18446744073709551615) ⌝ }
-    ensures { λ _. ⌜ ((q : ℕ) → q < 257 → getD (now (memory .exit)) q 0 ≡ getD (now (memory .entry)) q 0)
+// Remembers entry a's shortlist, if the list's positions have 16 bits.
+fn keep_short(memory: &mut [u64; 897], n: usize, a: usize, m: usize, positions: &[usize; 16])
+    requires { ⌜ (length (now memory) ≡ 897) × (length (now positions) ≡ 16) × (m ≤ 16) × (a < n) × ((i : ℕ) → i < m → getD (now positions) i 0 < n) ⌝ }
+    ensures { λ _. ⌜ (length (now (memory .exit)) ≡ 897) × ((q : ℕ) → q < 257 → getD (now (memory .exit)) q 0 ≡ getD (now (memory .entry)) q 0)
         × ((f : ℕ → List ℕ) → ((b : ℕ) → length (f b) ≤ 16) → Shorts f (now (memory .entry)) → take m (now (positions .entry)) ≡ f a → Shorts f (now (memory .exit))) ⌝ }
 {
+    if n > 65536 {
+        return;
+    }
     let p = row_of(a);
-    copy_in(memory, p + 1, m, positions);
+    copy_in(memory, p + 1, positions);
     memory[p] = a as u64 + 1;
 }
 
@@ -72,7 +97,7 @@ pub fn shortlist(
     a: usize,
     width: u64,
     positions: &mut [usize; 16],
-    memory: &mut [u64; 801],
+    memory: &mut [u64; 897],
 ) -> usize
     requires { ⌜ RangedList (now oklab) n × (a < n) × (length (now positions) ≡ 16) × Shorts (shortOf (oklabAt (now oklab)) n width) (now memory) ⌝ }
     ensures { λ m. ⌜ (take m (now (positions .exit)) ≡ shortOf (oklabAt (now (oklab .entry))) n width a) × (m ≤ 16) × (length (now (positions .exit)) ≡ 16)
@@ -87,6 +112,6 @@ pub fn shortlist(
     }
     let mut far = [0.0f32; 16];
     let m = shortlist::shortlist(oklab, n, a, width, positions, &mut far);
-    keep_short(memory, a, m, positions);
+    keep_short(memory, n, a, m, positions);
     m
 }

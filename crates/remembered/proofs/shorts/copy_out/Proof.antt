@@ -1,10 +1,10 @@
--- `remembered::shorts::copy_out` meets its contract. The invariant: so many are copied. Assumes nothing.
+-- `remembered::shorts::copy_out` meets its contract. The invariant: so many positions are unpacked. Assumes nothing.
 use mathlib.Core.Path.{subst}
 use Prim.Native.Nat.{ℕ, _-_, _≤_}
 use native.Mathlib.Nat.{le-antisymm}
-use borrow.Author.Needs.{needs}
 use Rattle.remembered.specs.Shorts.{CopiedOut}
 use Rattle.remembered.proofs.ShortLaws.{out-none, out-more}
+use borrow.Author.Needs.{needs}
 use Rattle.remembered.proofs.shorts.copy_out.Statement.{statement}
 use Rattle.remembered.proofs.shorts.copy_out.Tie as tie
 
@@ -17,17 +17,20 @@ abbrev μ-loop : tie.MeasureT-loop
 loop-holds : tie.Need-loop-holds Inv-loop μ-loop
 loop-holds c = (search needs, out-none _ _ _ (c .pre .1))
 
-add-positions : tie.Need-add-positions Inv-loop μ-loop
-add-positions c = search needs
+add-digit : tie.Need-add-digit Inv-loop μ-loop
+add-digit c = search needs
+
+mul-digit : tie.Need-mul-digit Inv-loop μ-loop
+mul-digit c = search needs
+
+element-copy-out-digit : tie.Need-element-copy-out-digit Inv-loop μ-loop
+element-copy-out-digit c = search needs
+
+digit-requires : tie.Need-digit-requires Inv-loop μ-loop
+digit-requires c κs = search needs
 
 mul-positions : tie.Need-mul-positions Inv-loop μ-loop
 mul-positions c = search needs
-
-element-copy-out-positions : tie.Need-element-copy-out-positions Inv-loop μ-loop
-element-copy-out-positions c = search needs
-
-mul-positions-2 : tie.Need-mul-positions-2 Inv-loop μ-loop
-mul-positions-2 c = search needs
 
 element-write-positions : tie.Need-element-write-positions Inv-loop μ-loop
 element-write-positions c = search needs
@@ -39,10 +42,13 @@ loop-less : tie.Need-loop-less Inv-loop μ-loop
 loop-less c = search needs
 
 loop-again : tie.Need-loop-again Inv-loop μ-loop
-loop-again c = (search needs, out-more (c .before .before .loop .inv .1) (search needs))
+loop-again c = (search needs, out-more (c .before .before .before .loop .inv .1) (search needs) (c .digit .ensures))
 
 returns : tie.Need-returns Inv-loop μ-loop
-returns c = let a = c .before .before .args in let l = c .before .loop in subst (λ (n : ℕ). CopiedOut (a .memory .now) (a .p) n (l .positions)) (le-antisymm (c .before .loop .inv .0) (c .loop-test .left)) (c .before .loop .inv .1)
+returns c =
+    let a = c .before .before .args in
+    let l = c .before .loop in
+    subst (λ (n : ℕ). CopiedOut (a .memory .now) (a .p) n (l .positions)) (le-antisymm (l .inv .0) (c .loop-test .left)) (l .inv .1)
 
 pub copy-out-spec : {M : Type 1} → statement M
 copy-out-spec =
@@ -51,10 +57,11 @@ copy-out-spec =
     Inv-loop
     μ-loop
     loop-holds
-    add-positions
+    add-digit
+    mul-digit
+    element-copy-out-digit
+    digit-requires
     mul-positions
-    element-copy-out-positions
-    mul-positions-2
     element-write-positions
     add-i
     loop-less

@@ -1,6 +1,7 @@
 -- `remembered::shorts::shortlist` meets its contract: by whether the entry has a row. Assumes nothing.
 use mathlib.Core.Path.{refl, sym, _∙_}
-use Prim.Native.Nat.{_≤_}
+use Prim.Native.Nat.{ℕ, _≤_, _<_}
+use lib.ListN.{length, getD}
 use native.Mathlib.Omega.{arith}
 use Rattle.color.specs.Oklab.{oklabAt}
 use Rattle.mixing.specs.Widths.{clampWidth}
@@ -8,7 +9,7 @@ use Rattle.shortlist.specs.Nearest.{distances}
 use Rattle.shortlist.specs.Shortlist.{ranked}
 use Rattle.shortlist.proofs.ArrayLaws.{listed-le, clamp-high}
 use Rattle.remembered.specs.Shorts.{shortOf}
-use Rattle.remembered.proofs.ShortLaws.{short-few, short-length, row-found}
+use Rattle.remembered.proofs.ShortLaws.{short-few, short-length, short-below, row-found}
 use borrow.Author.Needs.{needs}
 use Rattle.remembered.proofs.shorts.shortlist.Statement.{statement}
 use Rattle.remembered.proofs.shorts.shortlist.Tie as tie
@@ -52,11 +53,19 @@ few c =
     let ls = oklabAt (a .oklab .now) in
     omega (arith, listed-le (distances (ls (a .a)) ls) (c .shortlist .result) (clampWidth (a .width)) _ _ (ranked (distances (ls (a .a)) ls) (a .a) (a .n)) (c .shortlist .ensures), clamp-high (a .width))
 
+below-n : (c : tie.After-shortlist) (i : ℕ) → i < c .shortlist .result → getD (c .shortlist .last .1 .1 .1 .1 .0) i 0 < c .before .before .before .before .before .before .before .args .n
+unfolding shortOf
+below-n c =
+    let s = c .before .before .before .before .before .before .before in
+    let r = c .shortlist .ensures in
+    let l : c .shortlist .result ≤ length (c .shortlist .last .1 .1 .1 .1 .0) = omega (arith, few c, r .room .0) in
+    short-below (oklabAt (s .args .oklab .now)) (s .args .n) (s .args .width) (s .pre .0 .range) (s .args .a) (s .pre .1) _ _ (r .places) l
+
 keep-short-requires : tie.Need-keep-short-requires
 keep-short-requires c κs =
     let s = c .before .before .before .before .before .before .before .before .before in
     let r = c .before .before .shortlist in
-    (s .pre .3 .room, r .ensures .room .0, few (c .before .before), omega (arith, s .pre .1))
+    (s .pre .3 .room, r .ensures .room .0, few (c .before .before), s .pre .1, below-n (c .before .before))
 
 returns-2 : tie.Need-returns-2
 unfolding shortOf
@@ -65,7 +74,7 @@ returns-2 c =
     let a = s .args in
     let r = c .before .before .before .shortlist in
     let k = c .keep-short .ensures in
-    (r .ensures .places, few (c .before .before .before), r .ensures .room .0, k .1 _ (short-few (oklabAt (a .oklab .now)) (a .n) (a .width)) (s .pre .3) (r .ensures .places), k .0)
+    (r .ensures .places, few (c .before .before .before), r .ensures .room .0, k .2 _ (short-few (oklabAt (a .oklab .now)) (a .n) (a .width)) (s .pre .3) (r .ensures .places), k .1)
 
 pub shortlist-spec : {M : Type 1} → statement M
 shortlist-spec =
