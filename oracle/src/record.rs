@@ -1,12 +1,12 @@
 //! The list of the original's answers that the repository replays: which cases
 //! it has, and how they are written.
 
-use crate::case::{Call, Case, LentTables};
+use crate::case::{Call, Case, LentTables, List, Lookup};
 use crate::color::{ReducedColor, eq_rgb};
 use crate::examples;
 use crate::generate::{Style, case_with};
 use crate::hooks::Tables;
-use crate::original::{Rgba, own_tables};
+use crate::original::{Rgba, own_tables, to_oklab};
 use crate::reference::expected;
 use crate::rng::Rng;
 use crate::text::{hex, line, tables_line};
@@ -121,6 +121,47 @@ fn group(name: &str, cases: &[Case]) -> String {
     text
 }
 
+/// A lookup over so many records, of any colours.
+fn lookup_over(entries: usize, rng: &mut Rng) -> Lookup {
+    let mut bytes = |count: usize| -> Vec<u8> { (0..count).map(|_| rng.byte()).collect() };
+    let (reduced, normalized, color) = (bytes(4 * entries), bytes(4 * entries), bytes(3));
+    let oklab = normalized.chunks_exact(4).flat_map(|c| to_oklab([c[0], c[1], c[2]])).collect();
+    let list = List { reduced, normalized, oklab };
+    Lookup { list, color: [color[0], color[1], color[2]], width: rng.within(1, 16) }
+}
+
+/// The cases of a lookup over records: more of the flat call's, without those
+/// that are refused for a length, which a list of records cannot be; and, since
+/// random lists are short and often of twins, lists of one and two records and
+/// of some hundreds. 300 is the most that the program has room for.
+fn record_cases_of(call: Call, seed: u64) -> Vec<Case> {
+    let mut cases = sample(call, seed + 1, None);
+    cases.retain(|case| expected(case).number() != 3);
+    let mut rng = Rng::new(seed + 1);
+    for entries in [1, 1, 2, 2, 2, 2, 150, 300] {
+        let lookup = lookup_over(entries, &mut rng);
+        cases.push(match call {
+            Call::Nearest => Case::Nearest(lookup),
+            Call::NearestTwo => Case::NearestTwo(lookup),
+            _ => Case::OrderedBracket { lookup, dark: vec![0; 4], light: vec![0; 4] },
+        });
+    }
+    cases
+}
+
+/// The group of a lookup over records. The lookups over records have the flat
+/// calls' tokens, and their letters in upper case.
+fn records_group(call: Call, seed: u64) -> String {
+    let mut text = format!("g records_{}\n", call.name());
+    for case in record_cases_of(call, seed) {
+        let flat = line(&case, &expected(&case));
+        text += &flat[..1].to_uppercase();
+        text += &flat[1..];
+        text.push('\n');
+    }
+    text
+}
+
 /// `eq_rgb` is not in the C interface, and so no `Call`. Its pairs are equal,
 /// differ in one byte, or in all.
 fn eq_rgb_group(seed: u64) -> String {
@@ -153,6 +194,7 @@ pub fn list(calls: &[Call], seed: u64, command: &str) -> String {
         }
         text += &group(call.name(), &cases_of(call, seed));
         match call {
+            Call::Nearest | Call::NearestTwo | Call::OrderedBracket => text += &records_group(call, seed),
             Call::QuantizePixels => text += &group("quantize_pixels_examples", &examples::of_quantize()),
             Call::DitherToMode => text += &group("dither_to_mode_examples", &examples::of_to_mode()),
             _ => {}

@@ -30,13 +30,13 @@ use recorded::shaped;
 use recorded::word;
 
 // Colour i of a list of colours without alpha.
-fn color_at(p: &[u8], i: u8) -> NormalizedColor {
+pub fn color_at(p: &[u8], i: u8) -> NormalizedColor {
     let at = 3 * i as usize;
     NormalizedColor::new(byte_at(p, at), byte_at(p, at + 1), byte_at(p, at + 2), 255)
 }
 
 // Oklab colour i of a list.
-fn oklab_at(p: &[u8], i: u8) -> Oklab {
+pub fn oklab_at(p: &[u8], i: u8) -> Oklab {
     let at = 3 * i as usize;
     Oklab {
         l: float_at(p, at),
@@ -177,7 +177,8 @@ fn nearest_two(room: &[u8], oklab: &[f32]) -> bool {
     }
 }
 
-fn is_bracket(room: &[u8], bracket: Bracket) -> bool {
+// Whether the tokens from 5 on are this bracket.
+pub fn is_bracket(room: &[u8], bracket: Bracket) -> bool {
     let dark = bracket.dark;
     let light = bracket.light;
     is_byte(room, 5, 0)

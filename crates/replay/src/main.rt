@@ -106,6 +106,9 @@ fn same(tables: &[u8], line: &[u8], letter: u8, room: &mut [u8]) -> bool {
     if picture_cases::has_tables(letter) {
         return picture_cases::same(letter, room);
     }
+    if record_cases::has_records(letter) {
+        return record_cases::same(letter, room);
+    }
     cases::same(letter, room)
 }
 

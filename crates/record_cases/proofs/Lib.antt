@@ -1,0 +1,2 @@
+-- The laws of `record_cases`.
+pub mod Lending
