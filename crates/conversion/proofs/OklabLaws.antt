@@ -1,18 +1,19 @@
 -- The conversion: none of l, m, s exceeds 10^18, so that no root exceeds a million; and every component of a colour's Oklab is from -2 to 2.
 -- For L and b that is plain from the roots' bound. For a it takes how the roots hang together: l, m, s are sums of the same three numbers, so
 -- that s is at most 8 m and m at most 8 l, and s' is at most 2 m' + 1 and m' at most 2 l' + 1. Assumes nothing.
-use mathlib.Core.Path.{_≡_, ap}
+use mathlib.Core.Path.{_≡_, ap, _∙_}
 use Prim.Native.Nat.{ℕ, _+_, _*_, _≤_, _<_}
 use native.Mathlib.Omega.{arith}
 use lib.IntN.{ℤ, pos, natAbs, _+ℤ_, _-ℤ_}
 use Rattle.floats.proofs.Int.{sums}
 use Rattle.floats.proofs.Whole.{millionths-within}
 use Rattle.color.specs.declared.NormalizedColor.{NormalizedColor}
+use Rattle.color.specs.declared.Oklab.{Oklab}
 use Rattle.color.proofs.Distances.{Ranged}
 use Rattle.conversion.specs.Linear.{linearOf}
 use Rattle.conversion.specs.Root.{rootOf}
 use Rattle.conversion.specs.Nearest.{nearest}
-use Rattle.conversion.specs.Oklab.{AtMost, lOf, mOf, sOf, lightnessOf, aOf, bOf, oklabOf, toOklab}
+use Rattle.conversion.specs.Oklab.{AtMost, lOf, mOf, sOf, lightnessOf, aOf, bOf, millionthsOf, oklabOf, toOklab}
 use Rattle.conversion.proofs.LinearLaws.{small}
 use Rattle.conversion.proofs.RootLaws.{million, doubled}
 use Rattle.conversion.proofs.NearestLaws.{nearest-size}
@@ -70,3 +71,8 @@ ranged c R G B =
       a = millionths-within _ (a-size _ _ _ k (s-of-m r g b h) (m-of-l r g b h));
       b = millionths-within _ (b-size _ _ _ k);
     }
+
+-- from linear values: what the code answers is the colour's
+pub converted : (c : NormalizedColor) (r g b : ℕ) (o : Oklab) → r ≡ linearOf (c .0 .r) → g ≡ linearOf (c .0 .g) → b ≡ linearOf (c .0 .b) → o ≡ oklabOf (millionthsOf r g b) → o ≡ toOklab c
+unfolding toOklab
+converted c r g b o R G B e = e ∙ (λ i. oklabOf (millionthsOf (R i) (G i) (B i)))

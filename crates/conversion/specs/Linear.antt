@@ -6,10 +6,10 @@
 -- ((v + 0.055) / 1.055) ^ 2.4. For (k / 255) / 12.92 is 100 k / 329460, (k / 255 + 0.055) / 1.055 is (1000 k + 14025) / 269025, and
 -- 2.4 is 12 / 5.
 use Prim.Native.Nat.{ℕ, _+_, _-_, _*_, _^_}
-use mathlib.Core.Bool.{Bool, _&&_, cond}
+use mathlib.Core.Bool.{Bool, true, _&&_, cond}
 use mathlib.Core.List.{List, [], _∷_}
-use lib.Dec.{ltb, leb}
-use lib.ListN.{getD}
+use lib.Dec.{eqb, ltb, leb}
+use lib.ListN.{getD, drop}
 
 -- t is the nearest whole number, halves up, to the y with d (2 y)^e = x: t - 1/2 <= y < t + 1/2, compared as d (2 t - 1)^e <= x < d (2 t + 1)^e.
 -- Where t is 0, 2 t - 1 is 0 here, and the first holds as it should.
@@ -62,3 +62,12 @@ values =
 
 unfoldable pub linearOf : ℕ → ℕ
 linearOf k = getD values k 0
+
+-- the value in the four bytes of a list from i on, the lowest first
+abbrev pub valueAt : List ℕ → ℕ → ℕ
+valueAt bytes i = getD bytes i 0 + 256 * getD bytes (i + 1) 0 + 65536 * getD bytes (i + 2) 0 + 16777216 * getD bytes (i + 3) 0
+
+-- a list of bytes holds a list of values, four bytes to a value
+abbrev pub inBytes : List ℕ → List ℕ → Bool
+inBytes bytes [] = true
+inBytes bytes (x ∷ xs) = eqb (valueAt bytes 0) x && inBytes (drop 4 bytes) xs

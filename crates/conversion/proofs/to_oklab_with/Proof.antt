@@ -1,8 +1,7 @@
 -- `conversion::to_oklab_with` meets its contract: a byte's linear value is at most 10^8. Assumes nothing.
-use mathlib.Core.Path.{_∙_}
 use native.Mathlib.Omega.{arith}
-use Rattle.conversion.specs.Oklab.{millionthsOf, oklabOf, toOklab}
 use Rattle.conversion.proofs.LinearLaws.{value-small}
+use Rattle.conversion.proofs.OklabLaws.{converted}
 use Rattle.conversion.proofs.to_oklab_with.Statement.{statement}
 use Rattle.conversion.proofs.to_oklab_with.Tie as tie
 
@@ -23,10 +22,7 @@ linear-to-oklab-requires c κs = record {
 }
 
 returns : tie.Need-returns
-unfolding toOklab
-returns c =
-    c .linear-to-oklab .ensures
-    ∙ (λ i. oklabOf (millionthsOf (c .before .before .before .linear-at .ensures i) (c .before .before .linear-at2 .ensures i) (c .before .linear-at3 .ensures i)))
+returns c = converted _ _ _ _ _ (c .before .before .before .linear-at .ensures) (c .before .before .linear-at2 .ensures) (c .before .linear-at3 .ensures) (c .linear-to-oklab .ensures)
 
 pub to-oklab-with-spec : {M : Type 1} → statement M
 to-oklab-with-spec =
