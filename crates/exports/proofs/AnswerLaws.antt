@@ -6,14 +6,10 @@ use Rattle.color.specs.declared.NormalizedColor.{NormalizedColor}
 use Rattle.color.specs.Color.{rgba}
 use Rattle.exports.specs.Answers.{opaqueRgb}
 
--- what a pointer holds after an answer, where the answer x is the case y
-pub left-by : {A B : Type 0} (held : A → B → B) (x y : A) (was : B) → x ≡ y → held y was ≡ held x was
-left-by {A} held x y was e = sym (ap (λ (z : A). held z was) e)
-
--- and the number of the answer
-pub by-case : {A B : Type 0} (number : A → ℕ) (held : A → B → B) (x y : A) (was : B) → x ≡ y → (number y ≡ number x) × (held y was ≡ held x was)
-by-case number held x y was e = (sym (ap number e), left-by held x y was e)
+-- what is left of the answer x, where that is the case y
+pub left-by : {A B : Type 0} (left : A → B) {x y : A} → x ≡ y → left y ≡ left x
+left-by left e = sym (ap left e)
 
 -- where a call is asked of three bytes as an opaque colour, its answer x is that for the bytes
-pub of-rgb : {A : Type 0} (answer : NormalizedColor → A) (color : NormalizedColor) (r g b : ℕ) (x y : A) → color .0 ≡ rgba r g b 255 → x ≡ answer color → x ≡ y → answer (opaqueRgb r g b) ≡ y
-of-rgb answer color r g b x y c p q = sym (ap (λ (u : Rgba8888). answer (record { 0 = u })) c) ∙ sym p ∙ q
+pub of-rgb : {A : Type 0} (answer : NormalizedColor → A) (color : NormalizedColor) (r g b : ℕ) {x y : A} → color .0 ≡ rgba r g b 255 → x ≡ answer color → x ≡ y → answer (opaqueRgb r g b) ≡ y
+of-rgb answer color r g b c p q = sym (ap (λ (u : Rgba8888). answer (record { 0 = u })) c) ∙ sym p ∙ q

@@ -1,4 +1,5 @@
 -- The laws of `exports`.
+pub mod Unique
 pub mod AnswerLaws
 pub mod LookupLaws
 pub mod PictureLaws

@@ -31,6 +31,7 @@ use Rattle.shortlist.proofs.NearestLaws.{nearest-inside}
 use Rattle.lookup.specs.Lists.{lengthsFit, countFits, firstOutside, listNumber}
 use Rattle.lookup.specs.Second.{nearestTwoOf}
 use Rattle.lookup.specs.Bracket.{bracketOf, pickAt, pickIn, pickOf}
+use Rattle.lookup.specs.Answers as answers
 use Rattle.lookup.specs.Answers.{nearestAnswer, nearestTwoAnswer, bracketAnswer}
 use Rattle.lookup.specs.declared.Second.{Second}
 use Rattle.lookup.specs.declared.Second.the-variants as second
@@ -48,38 +49,29 @@ use Rattle.lookup.proofs.ListLaws.{accepted}
 use Rattle.lookup.proofs.TwoLaws.{first-inside, second-inside}
 use Rattle.lookup.proofs.AnswerLaws.{nearest-number, nearest-two-number, nearest-accepted, two-accepted}
 use Rattle.exports.specs.Answers.{opaqueRgb}
-use Rattle.exports.specs.Lookups.{nearestNumber, positionAfter, nearestTwoNumber, secondOr, secondOf, firstAfter, secondAfter, isFour, bracketReplies, bracketNumber, bracketRgb, darkAfter, lightAfter, ratioAfter, pickReplies, pickNumber, pickRooms}
-use Rattle.exports.proofs.AnswerLaws.{left-by}
-
--- ---- what two and three pointers hold, where the answer x is the case y
-pub two-by-case : (x y : FoundTwo) (first second : ℕ) → x ≡ y → (nearestTwoNumber y ≡ nearestTwoNumber x) × (firstAfter y first ≡ firstAfter x first) × (secondAfter y second ≡ secondAfter x second)
-two-by-case x y first second e = (sym (ap nearestTwoNumber e), left-by firstAfter x y first e, left-by secondAfter x y second e)
-
-pub bracket-by-case : (x y : FoundBracket) (dark light : List ℕ) (ratio : Float) → x ≡ y
-    → (bracketNumber y ≡ bracketNumber x) × (darkAfter y dark ≡ darkAfter x dark) × (lightAfter y light ≡ lightAfter x light) × (ratioAfter y ratio ≡ ratioAfter x ratio)
-bracket-by-case x y dark light ratio e = (sym (ap bracketNumber e), left-by darkAfter x y dark e, left-by lightAfter x y light e, left-by ratioAfter x y ratio e)
+use Rattle.exports.specs.Lookups.{foundLeft, secondOr, secondOf, twoLeft, isFour, bracketReplies, bracketRgb, bracketLeft, badgeOrderedBracket, pickReplies, pickRooms, pickedLeft, badgePick}
 
 -- ---- positions: those of an answer x
 module _ (reduced normalized : List ℕ) (oklab : List Float) (color : NormalizedColor) where
   pub position-small : (x : Found) (k : ℕ) → x ≡ nearestAnswer reduced normalized oklab color → x ≡ found.At k → k < 65536
   position-small x k p q =
       let e = sym p ∙ q in
-      let z = sym (nearest-number reduced normalized oklab color) ∙ ap nearestNumber e in
+      let z = sym (nearest-number reduced normalized oklab color) ∙ ap answers.numberOf e in
       let A = accepted reduced normalized oklab z in
       let n = nearestOf (flat reduced normalized oklab) (toOklab color) in
-      let s : n ≡ k = ap (λ (x : Found). positionAfter x 0) (nearest-accepted reduced normalized oklab color (listNumber reduced normalized oklab) refl z (toOklab color) n refl refl ∙ e) in
+      let s : n ≡ k = ap (λ (x : Found). foundLeft 0 x .1) (nearest-accepted reduced normalized oklab color (listNumber reduced normalized oklab) refl z (toOklab color) n refl refl ∙ e) in
       omega (arith, A .few, nearest-inside (oklabAt oklab) (length reduced / 4) (toOklab color) (A .positive))
 
   pub positions-small : (width : ℕ) (x : FoundTwo) (t : Two) → x ≡ nearestTwoAnswer reduced normalized oklab color width → x ≡ two.At t → (t .first < 65536) × (secondOf t < 65536)
   positions-small width x t p q =
       let e = sym p ∙ q in
-      let z = sym (nearest-two-number reduced normalized oklab color width) ∙ ap nearestTwoNumber e in
+      let z = sym (nearest-two-number reduced normalized oklab color width) ∙ ap answers.numberOfTwo e in
       let A = accepted reduced normalized oklab z in
       let cs = flat reduced normalized oklab in
       let n = nearestTwoOf cs width (toOklab color) color in
       let s : two.At n ≡ two.At t = two-accepted reduced normalized oklab color (listNumber reduced normalized oklab) refl width z (toOklab color) n refl refl ∙ e in
-      let f : n .first ≡ t .first = ap (λ (x : FoundTwo). firstAfter x 0) s in
-      let g : secondOf n ≡ secondOf t = ap (λ (x : FoundTwo). secondAfter x 0) s in
+      let f : n .first ≡ t .first = ap (λ (x : FoundTwo). twoLeft 0 0 x .1) s in
+      let g : secondOf n ≡ secondOf t = ap (λ (x : FoundTwo). twoLeft 0 0 x .2) s in
       let i : n .first < length reduced / 4 = first-inside cs width (toOklab color) color (A .positive) in
       let j : secondOf n < length reduced / 4 = either (length reduced / 4) (n .first) i (n .second) (second-inside cs width (toOklab color) color (A .positive) (A .ranged .range)) in
       (omega (arith, A .few), omega (arith, A .few))
@@ -181,14 +173,15 @@ numbered : {A : Type 0} (refusal : ℕ → A) (number : A → ℕ) (n : ℕ) (re
 numbered refusal number zero result e h = e
 numbered refusal number (suc n) result e h = h (suc n)
 
-pub bracket-lowest : (reduced normalized : List ℕ) (oklab : List Float) (r g b width : ℕ) (dark light : List ℕ)
-    → Lowest (bracketReplies reduced normalized oklab dark light) (bracketNumber (bracketRgb reduced normalized oklab r g b width dark light))
+pub bracket-lowest : (reduced normalized : List ℕ) (oklab : List Float) (r g b width : ℕ) (dark light : List ℕ) (ratio : Float)
+    → Lowest (bracketReplies reduced normalized oklab dark light) (badgeOrderedBracket reduced normalized oklab r g b width dark light ratio .0)
 unfolding bracketRgb
-bracket-lowest reduced normalized oklab r g b width dark light =
-    subst (Lowest (bracketReplies reduced normalized oklab dark light)) (sym (numbered bracket.Refused bracketNumber (lowest (bracketReplies reduced normalized oklab dark light)) _ refl (λ m. refl))) (lowest-is (bracketReplies reduced normalized oklab dark light) tt)
+bracket-lowest reduced normalized oklab r g b width dark light ratio =
+    let replies = bracketReplies reduced normalized oklab dark light in
+    subst (Lowest replies) (sym (numbered bracket.Refused (λ (x : FoundBracket). bracketLeft dark light ratio x .0) (lowest replies) _ refl (λ m. refl))) (lowest-is replies tt)
 
-pub pick-lowest : (dark light : List ℕ) (ratio : Float) (kind x y : ℕ) (chosen : List ℕ)
-    → Lowest (pickReplies dark light kind chosen) (pickNumber (pickRooms dark light ratio kind x y chosen))
+pub pick-lowest : (dark light : List ℕ) (ratio : Float) (kind x y : ℕ) (chosen : List ℕ) → Lowest (pickReplies dark light kind chosen) (badgePick dark light ratio kind x y chosen .0)
 unfolding pickRooms
 pick-lowest dark light ratio kind x y chosen =
-    subst (Lowest (pickReplies dark light kind chosen)) (sym (numbered picked.Refused pickNumber (lowest (pickReplies dark light kind chosen)) _ refl (λ m. refl))) (lowest-is (pickReplies dark light kind chosen) tt)
+    let replies = pickReplies dark light kind chosen in
+    subst (Lowest replies) (sym (numbered picked.Refused (λ (x : Picked). pickedLeft chosen x .0) (lowest replies) _ refl (λ m. refl))) (lowest-is replies tt)

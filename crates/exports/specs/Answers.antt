@@ -1,54 +1,65 @@
--- What stands behind a pointer after a call through the C interface: the answer's value on acceptance, and otherwise what was there. Definitions only.
+-- What the calls on colours and thresholds answer through the C interface and leave behind their pointers: the answer's value on acceptance, and otherwise
+-- what was there. Each contract says that the result is the definition that has the call's name. Definitions only.
 -- Written from document 01, "Bounds and replies": "A refusal returns no colour", "all unchanged".
 use Prim.Native.Nat.{ℕ}
+use mathlib.Core.Bool.{not}
+use lib.Dec.{eqb}
 use lib.Ieee.{Float}
 use Rattle.color.specs.declared.NormalizedColor.{NormalizedColor}
 use Rattle.color.specs.declared.Oklab.{Oklab}
 use Rattle.color.specs.declared.Distance.{Distance}
 use Rattle.color.specs.declared.Distance.the-variants.{Squared, Refused}
 use Rattle.color.specs.Color.{rgba}
+use Rattle.color.specs.Oklab.{distanceOf}
 use Rattle.conversion.specs.Oklab.{toOklab}
 use Rattle.patterns.specs.declared.Thresholded.{Thresholded}
 use Rattle.patterns.specs.declared.Thresholded.the-variants as thresholded
-use Rattle.patterns.specs.Thresholds as thresholds
+use Rattle.patterns.specs.Thresholds.{thresholdOf}
 use Rattle.mixing.specs.declared.Width.{Width}
 use Rattle.mixing.specs.declared.Width.the-variants as width
-use Rattle.mixing.specs.Widths as widths
+use Rattle.mixing.specs.Widths.{bracketWidthOf}
+use Rattle.mixing.specs.Lerp.{lerpOf}
 
 -- an opaque colour
 abbrev pub opaqueRgb : ℕ → ℕ → ℕ → NormalizedColor
 opaqueRgb r g b = record { 0 = rgba r g b 255 }
 
--- the Oklab colour of three bytes; alpha plays no part
-abbrev pub oklabOfRgb : ℕ → ℕ → ℕ → Oklab
-oklabOfRgb r g b = toOklab (opaqueRgb r g b)
-
 -- an Oklab colour of three floats
 abbrev pub oklab : Float → Float → Float → Oklab
 oklab l a b = record { l = l; a = a; b = b }
 
--- ---- `oklab_sqdist`
--- the distance
-abbrev pub squaredAfter : Distance → Float → Float
-squaredAfter (Squared d) was = d
-squaredAfter (Refused n) was = was
+-- the parts of an Oklab colour
+abbrev pub partsOf : Oklab → Float × Float × Float
+partsOf o = (o .l, o .a, o .b)
 
--- ---- `ordered_threshold`
--- document 01's number
-abbrev pub thresholdNumber : Thresholded → ℕ
-thresholdNumber x = thresholds.numberOf x
+-- ---- `badge_to_oklab`: the three parts; alpha plays no part
+abbrev pub badgeToOklab : (r g b : ℕ) → Float × Float × Float
+badgeToOklab r g b = partsOf (toOklab (opaqueRgb r g b))
 
--- the threshold
-abbrev pub thresholdAfter : Thresholded → Float → Float
-thresholdAfter (thresholded.At t) was = t
-thresholdAfter (thresholded.Refused n) was = was
+-- ---- `badge_oklab_sqdist`: the number, and the distance
+abbrev pub distanceLeft : Float → Distance → ℕ × Float
+distanceLeft was (Squared d) = (0, d)
+distanceLeft was (Refused n) = (n, was)
 
--- ---- `bracket_width`
--- document 01's number
-abbrev pub widthNumber : Width → ℕ
-widthNumber x = widths.numberOf x
+abbrev pub badgeOklabSqdist : (l1 a1 b1 l2 a2 b2 was : Float) → ℕ × Float
+badgeOklabSqdist l1 a1 b1 l2 a2 b2 was = distanceLeft was (distanceOf (oklab l1 a1 b1) (oklab l2 a2 b2))
 
--- the width
-abbrev pub widthAfter : Width → ℕ → ℕ
-widthAfter (width.Of w) was = w
-widthAfter (width.Refused n) was = was
+-- ---- `badge_ordered_threshold`: the number, and the threshold
+abbrev pub thresholdLeft : Float → Thresholded → ℕ × Float
+thresholdLeft was (thresholded.At t) = (0, t)
+thresholdLeft was (thresholded.Refused n) = (n, was)
+
+abbrev pub badgeOrderedThreshold : (kind x y : ℕ) → Float → ℕ × Float
+badgeOrderedThreshold kind x y was = thresholdLeft was (thresholdOf kind x y)
+
+-- ---- `badge_bracket_width`: the number, and the width
+abbrev pub widthLeft : ℕ → Width → ℕ × ℕ
+widthLeft was (width.Of w) = (0, w)
+widthLeft was (width.Refused n) = (n, was)
+
+abbrev pub badgeBracketWidth : (shift max was : ℕ) → ℕ × ℕ
+badgeBracketWidth shift max was = widthLeft was (bracketWidthOf shift max)
+
+-- ---- `badge_lerp`: the share, clamped where the flag is not 0
+abbrev pub badgeLerp : (r1 g1 b1 r2 g2 b2 r g b clamp : ℕ) → Float
+badgeLerp r1 g1 b1 r2 g2 b2 r g b clamp = lerpOf (opaqueRgb r1 g1 b1) (opaqueRgb r2 g2 b2) (opaqueRgb r g b) (not (eqb clamp 0))

@@ -1,4 +1,4 @@
--- The definitions of `exports`: what stands behind a pointer or in a buffer after each answer.
+-- The definitions of `exports`: what each C function answers, and leaves behind its pointers and in its buffers.
 pub mod Answers
 pub mod Lookups
 pub mod Pictures

@@ -1,5 +1,5 @@
--- What the lookups and `pick` answer through the C interface, and what stands behind their pointers and in their buffers afterwards: the answer's on
--- acceptance, and otherwise what was there. Definitions only.
+-- What the lookups and `pick` answer through the C interface and leave behind their pointers and in their buffers: the answer's on acceptance, and
+-- otherwise what was there. Each contract says that the result is the definition that has the call's name. Definitions only.
 -- Written from document 01, "Bounds and replies": "The lowest number that applies is given", "A refusal returns no colour", "all unchanged".
 use Prim.Native.Nat.{ℕ, _/_}
 use mathlib.Core.List.{List, [], _∷_}
@@ -15,7 +15,7 @@ use Rattle.patterns.specs.Thresholds.{thresholdAt}
 use Rattle.shortlist.specs.Candidates.{flat}
 use Rattle.lookup.specs.Lists.{lengthsFit, countFits, firstOutside}
 use Rattle.lookup.specs.Bracket.{bracketOf, pickAt}
-use Rattle.lookup.specs.Answers as answers
+use Rattle.lookup.specs.Answers.{nearestAnswer, nearestTwoAnswer}
 use Rattle.lookup.specs.declared.Found.{Found}
 use Rattle.lookup.specs.declared.Found.the-variants as found
 use Rattle.lookup.specs.declared.Two.{Two}
@@ -29,29 +29,16 @@ use Rattle.lookup.specs.declared.Picked.{Picked}
 use Rattle.lookup.specs.declared.Picked.the-variants as picked
 use Rattle.exports.specs.Answers.{opaqueRgb}
 
--- ---- `nearest`
--- document 01's number
-abbrev pub nearestNumber : Found → ℕ
-nearestNumber x = answers.numberOf x
+-- ---- `badge_nearest`: the number, and the position
+abbrev pub foundLeft : ℕ → Found → ℕ × ℕ
+foundLeft was (found.At k) = (0, k)
+foundLeft was (found.Refused n) = (n, was)
 
--- what is answered for a colour of three bytes; alpha plays no part
-abbrev pub nearestRgb : List ℕ → List ℕ → List Float → ℕ → ℕ → ℕ → Found
-nearestRgb reduced normalized oklab r g b = answers.nearestAnswer reduced normalized oklab (opaqueRgb r g b)
+-- of a colour of three bytes; alpha plays no part
+abbrev pub badgeNearest : (reduced normalized : List ℕ) → List Float → (r g b was : ℕ) → ℕ × ℕ
+badgeNearest reduced normalized oklab r g b was = foundLeft was (nearestAnswer reduced normalized oklab (opaqueRgb r g b))
 
--- the position
-abbrev pub positionAfter : Found → ℕ → ℕ
-positionAfter (found.At k) was = k
-positionAfter (found.Refused n) was = was
-
--- ---- `nearest_two`
--- document 01's number
-abbrev pub nearestTwoNumber : FoundTwo → ℕ
-nearestTwoNumber x = answers.numberOfTwo x
-
--- what is answered for a colour of three bytes
-abbrev pub nearestTwoRgb : List ℕ → List ℕ → List Float → ℕ → ℕ → ℕ → ℕ → FoundTwo
-nearestTwoRgb reduced normalized oklab r g b width = answers.nearestTwoAnswer reduced normalized oklab (opaqueRgb r g b) width
-
+-- ---- `badge_nearest_two`: the number, and the positions of the first and of the second
 -- a second's position; that of the first where there is no second
 abbrev pub secondOr : Second → ℕ → ℕ
 secondOr (second.At k) first = k
@@ -61,21 +48,14 @@ secondOr second.Nothing first = first
 abbrev pub secondOf : Two → ℕ
 secondOf t = secondOr (t .second) (t .first)
 
--- the position of the first
-abbrev pub firstAfter : FoundTwo → ℕ → ℕ
-firstAfter (two.At t) was = t .first
-firstAfter (two.Refused n) was = was
+abbrev pub twoLeft : (first second : ℕ) → FoundTwo → ℕ × ℕ × ℕ
+twoLeft first second (two.At t) = (0, t .first, secondOf t)
+twoLeft first second (two.Refused n) = (n, first, second)
 
--- the position of the second, or again of the first
-abbrev pub secondAfter : FoundTwo → ℕ → ℕ
-secondAfter (two.At t) was = secondOf t
-secondAfter (two.Refused n) was = was
+abbrev pub badgeNearestTwo : (reduced normalized : List ℕ) → List Float → (r g b width first second : ℕ) → ℕ × ℕ × ℕ
+badgeNearestTwo reduced normalized oklab r g b width first second = twoLeft first second (nearestTwoAnswer reduced normalized oklab (opaqueRgb r g b) width)
 
--- ---- `ordered_bracket`
--- document 01's number
-abbrev pub bracketNumber : FoundBracket → ℕ
-bracketNumber x = answers.numberOfBracket x
-
+-- ---- `badge_ordered_bracket`: the number, the bytes of dark and of light, and the share of light
 -- a colour is four bytes
 abbrev pub isFour : List ℕ → Bool
 isFour bytes = eqb (length bytes) 4
@@ -94,26 +74,14 @@ bracketRgb reduced normalized oklab r g b width dark light =
     let n = lowest (bracketReplies reduced normalized oklab dark light) in
     after n (bracket.Of (bracketOf (flat reduced normalized oklab) width (toOklab (opaqueRgb r g b)) (opaqueRgb r g b))) (bracket.Refused n)
 
--- the four bytes of dark
-abbrev pub darkAfter : FoundBracket → List ℕ → List ℕ
-darkAfter (bracket.Of b) was = bytesOf (b .dark .0)
-darkAfter (bracket.Refused n) was = was
+abbrev pub bracketLeft : (dark light : List ℕ) → Float → FoundBracket → ℕ × List ℕ × List ℕ × Float
+bracketLeft dark light ratio (bracket.Of b) = (0, bytesOf (b .dark .0), bytesOf (b .light .0), b .ratio)
+bracketLeft dark light ratio (bracket.Refused n) = (n, dark, light, ratio)
 
--- the four bytes of light
-abbrev pub lightAfter : FoundBracket → List ℕ → List ℕ
-lightAfter (bracket.Of b) was = bytesOf (b .light .0)
-lightAfter (bracket.Refused n) was = was
+abbrev pub badgeOrderedBracket : (reduced normalized : List ℕ) → List Float → (r g b width : ℕ) → (dark light : List ℕ) → Float → ℕ × List ℕ × List ℕ × Float
+badgeOrderedBracket reduced normalized oklab r g b width dark light ratio = bracketLeft dark light ratio (bracketRgb reduced normalized oklab r g b width dark light)
 
--- the share of light
-abbrev pub ratioAfter : FoundBracket → Float → Float
-ratioAfter (bracket.Of b) was = b .ratio
-ratioAfter (bracket.Refused n) was = was
-
--- ---- `pick`
--- document 01's number
-abbrev pub pickNumber : Picked → ℕ
-pickNumber x = answers.numberOfPicked x
-
+-- ---- `badge_pick`: the number, and the bytes of the colour picked
 -- the numbers, and when each applies
 abbrev pub pickReplies : List ℕ → List ℕ → ℕ → List ℕ → List Reply
 pickReplies dark light kind chosen =
@@ -128,7 +96,9 @@ pickRooms dark light ratio kind x y chosen =
     let n = lowest (pickReplies dark light kind chosen) in
     after n (picked.Color (pickAt (record { dark = reducedAt dark 0; light = reducedAt light 0; ratio = ratio }) (thresholdAt kind x y))) (picked.Refused n)
 
--- the four bytes of the colour picked
-abbrev pub chosenAfter : Picked → List ℕ → List ℕ
-chosenAfter (picked.Color c) was = bytesOf (c .0)
-chosenAfter (picked.Refused n) was = was
+abbrev pub pickedLeft : List ℕ → Picked → ℕ × List ℕ
+pickedLeft was (picked.Color c) = (0, bytesOf (c .0))
+pickedLeft was (picked.Refused n) = (n, was)
+
+abbrev pub badgePick : (dark light : List ℕ) → Float → (kind x y : ℕ) → List ℕ → ℕ × List ℕ
+badgePick dark light ratio kind x y chosen = pickedLeft chosen (pickRooms dark light ratio kind x y chosen)

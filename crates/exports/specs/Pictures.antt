@@ -1,31 +1,41 @@
--- What is lent to the picture calls through the C interface, and what stands behind a pointer after them. Definitions only.
+-- What the picture calls answer through the C interface and leave in their buffers and behind their pointers, and what is lent to them. Each contract says
+-- that the result is the definition that has the call's name. Definitions only.
 -- Written from document 01, "Bounds and replies": "On acceptance the candidate rooms hold the list (counted in the answer)", "all unchanged".
 use Prim.Native.Nat.{ℕ}
 use mathlib.Core.Bool.{cond}
 use mathlib.Core.List.{List}
 use lib.Dec.{eqb}
 use lib.Ieee.{Float}
-use Rattle.candidates.specs.Calls.{Lent}
-use Rattle.candidates.specs.declared.CandidateCount.{CandidateCount}
-use Rattle.candidates.specs.declared.CandidateCount.the-variants.{Count, Refused}
+use lib.ListN.{length}
+use Rattle.lists.specs.Lowest.{lowest, after}
+use Rattle.candidates.specs.Calls.{Lent, candidatesIn, replies, placesAfter, oklabAfter}
 use Rattle.color.specs.Color.{rgba}
 use Rattle.drawing.specs.declared.ColorZero.{ColorZero}
 use Rattle.drawing.specs.declared.ColorZero.the-variants.{Absent, Is}
+use Rattle.drawing.specs.Lent.{cellsAfter}
+use Rattle.quantize.specs.Quantize.{Order, quantizing, numberFor, lengthsOf, indicesOf, pixelsOf}
 use Rattle.dither.specs.declared.Settings.{Settings}
-use Rattle.dither.specs.declared.Dithered.{Dithered}
-use Rattle.dither.specs.declared.Dithered.the-variants as dithered
+use Rattle.dither.specs.Mode as mode
+use Rattle.dither.specs.Mode.{Buffers, buffers, candidateList, tileOver, leaves}
 
--- what is lent to `candidate_colors_in`, from its parts
+-- ---- `badge_candidate_colors_in`: the number, the candidates' bytes and floats, and how many there are
+-- what is lent, from its parts
 abbrev pub lentTo : (shift width height : ℕ) (reduction scale pixels places : List ℕ) → List Float → Lent
 lentTo shift width height reduction scale pixels places oklab =
     record { shift = shift; width = width; height = height; reduction = reduction; scale = scale; pixels = pixels; places = places; oklab = oklab }
 
--- ---- `candidate_colors_in`: how many candidates there are
-abbrev pub countAfter : CandidateCount → ℕ → ℕ
-countAfter (Count k) was = k
-countAfter (Refused n) was = was
+abbrev pub badgeCandidateColorsIn : Lent → ℕ → ℕ × List ℕ × List Float × ℕ
+badgeCandidateColorsIn x count =
+    let n = lowest (replies x) in
+    (n, placesAfter n x, oklabAfter n x, after n (length (candidatesIn x)) count)
 
--- ---- `dither_to_mode`
+-- ---- `badge_quantize_pixels`: the number, the indices, the picture and the cells
+abbrev pub badgeQuantizePixels : Order → (indices out : List ℕ) → List Float → ℕ × List ℕ × List ℕ × List Float
+badgeQuantizePixels q indices out cells =
+    let n = numberFor (q .shift) (q .kind) (q .width) (q .height) (lengthsOf q indices out cells) in
+    (n, after n (indicesOf q) indices, after n (pixelsOf q) out, after n (cellsAfter (quantizing q) cells) cells)
+
+-- ---- `badge_dither_to_mode`: the number, the buffers, how many candidates there are, and the first tile over its limit
 -- colour zero: absent where the flag is 0, else the reduced colour of four bytes
 unfoldable pub zeroOf : ℕ → (r g b a : ℕ) → ColorZero
 zeroOf flag r g b a = cond (eqb flag 0) Absent (Is (record { 0 = rgba r g b a }))
@@ -45,14 +55,11 @@ settingsOf shift kind width height originX originY tileWidth tileHeight limit ze
   zero = zero;
 }
 
--- how many candidates there are, also where a tile is over its limit
-abbrev pub candidatesAfter : Dithered → ℕ → ℕ
-candidatesAfter (dithered.Count k) was = k
-candidatesAfter (dithered.Over tile k) was = k
-candidatesAfter (dithered.Refused n) was = was
+-- the buffers after a number
+abbrev pub buffersAfter : ℕ → mode.Order → Buffers → Buffers
+buffersAfter n q was = buffers (mode.placesAfter n q (was .places)) (mode.oklabAfter n q (was .oklab)) (mode.outAfter n q (was .out)) (mode.cellsLeft n q (was .cells))
 
--- the first tile over its limit, where one is
-abbrev pub tileAfter : Dithered → ℕ → ℕ
-tileAfter (dithered.Count k) was = was
-tileAfter (dithered.Over tile k) was = tile
-tileAfter (dithered.Refused n) was = was
+abbrev pub badgeDitherToMode : mode.Order → Buffers → (count tile : ℕ) → ℕ × Buffers × ℕ × ℕ
+badgeDitherToMode q was count tile =
+    let n = mode.numberFor q was in
+    (n, buffersAfter n q was, leaves n (length (candidateList q)) (length (candidateList q)) count, leaves n tile (tileOver q) tile)

@@ -22,22 +22,13 @@ use mixing::Width;
 use patterns::Thresholded;
 use quantize::Reply;
 ghost use mathlib.Core.Path.{_≡_};
-ghost use mathlib.Core.Bool.{not};
-ghost use lib.Dec.{eqb};
 ghost use lib.ListN.{length};
-ghost use Rattle.lists.specs.Lowest.{lowest, after};
 ghost use Rattle.color.specs.Color.{reducedAt, bytesOf};
-ghost use Rattle.color.specs.Oklab.{distanceOf, numberOf};
-ghost use Rattle.patterns.specs.Thresholds.{thresholdOf};
-ghost use Rattle.mixing.specs.Lerp.{lerpOf};
-ghost use Rattle.mixing.specs.Widths.{bracketWidthOf};
 ghost use Rattle.dither.specs.Mode as mode;
-ghost use Rattle.candidates.specs.Calls.{candidatesIn, replies, placesAfter, oklabAfter};
-ghost use Rattle.drawing.specs.Lent.{cellsAfter};
-ghost use Rattle.quantize.specs.Quantize.{order, quantizing, numberFor, lengthsOf, indicesOf, pixelsOf};
-ghost use Rattle.exports.specs.Answers.{opaqueRgb, oklabOfRgb, oklab, squaredAfter, thresholdNumber, thresholdAfter, widthNumber, widthAfter};
-ghost use Rattle.exports.specs.Lookups.{nearestNumber, nearestRgb, positionAfter, nearestTwoNumber, nearestTwoRgb, firstAfter, secondOf, secondAfter, bracketNumber, bracketRgb, darkAfter, lightAfter, ratioAfter, pickNumber, pickRooms, chosenAfter};
-ghost use Rattle.exports.specs.Pictures.{lentTo, zeroOf, settingsOf};
+ghost use Rattle.quantize.specs.Quantize.{order};
+ghost use Rattle.exports.specs.Answers.{badgeToOklab, badgeOklabSqdist, badgeOrderedThreshold, badgeBracketWidth, badgeLerp};
+ghost use Rattle.exports.specs.Lookups.{badgeNearest, secondOf, badgeNearestTwo, badgeOrderedBracket, badgePick};
+ghost use Rattle.exports.specs.Pictures.{lentTo, badgeCandidateColorsIn, badgeQuantizePixels, zeroOf, settingsOf, badgeDitherToMode};
 
 // The Oklab colour of a colour.
 #[no_mangle]
@@ -49,7 +40,7 @@ pub extern "C" fn badge_to_oklab(
     out_a: &mut f32,
     out_b: &mut f32,
 )
-    ensures { λ _. ⌜ (now (lightness .exit) ≡ oklabOfRgb r g b .l) × (now («out_a» .exit) ≡ oklabOfRgb r g b .a) × (now («out_b» .exit) ≡ oklabOfRgb r g b .b) ⌝ }
+    ensures { λ _. ⌜ (now (lightness .exit), now («out_a» .exit), now («out_b» .exit)) ≡ badgeToOklab r g b ⌝ }
 {
     let o = conversion::to_oklab(NormalizedColor::new(r, g, b, 255));
     *lightness = o.l;
@@ -68,8 +59,7 @@ pub extern "C" fn badge_oklab_sqdist(
     b2: f32,
     distance: &mut f32,
 ) -> u32
-    ensures { λ r. ⌜ (r ≡ numberOf (distanceOf (oklab l1 a1 b1) (oklab l2 a2 b2)))
-        × (now (distance .exit) ≡ squaredAfter (distanceOf (oklab l1 a1 b1) (oklab l2 a2 b2)) (now (distance .entry))) ⌝ }
+    ensures { λ n. ⌜ (n, now (distance .exit)) ≡ badgeOklabSqdist l1 a1 b1 l2 a2 b2 (now (distance .entry)) ⌝ }
 {
     let p = Oklab {
         l: l1,
@@ -93,7 +83,7 @@ pub extern "C" fn badge_oklab_sqdist(
 // The threshold of a kind at column x and row y; 1 and 9.
 #[no_mangle]
 pub extern "C" fn badge_ordered_threshold(kind: u32, x: u32, y: u32, threshold: &mut f32) -> u32
-    ensures { λ r. ⌜ (r ≡ thresholdNumber (thresholdOf kind x y)) × (now (threshold .exit) ≡ thresholdAfter (thresholdOf kind x y) (now (threshold .entry))) ⌝ }
+    ensures { λ n. ⌜ (n, now (threshold .exit)) ≡ badgeOrderedThreshold kind x y (now (threshold .entry)) ⌝ }
 {
     match patterns::ordered_threshold(kind, x, y) {
         Thresholded::At(t) => {
@@ -107,7 +97,7 @@ pub extern "C" fn badge_ordered_threshold(kind: u32, x: u32, y: u32, threshold: 
 // How many candidates `badge_nearest_two` considers; 1.
 #[no_mangle]
 pub extern "C" fn badge_bracket_width(shift: u32, max: u64, width: &mut u64) -> u32
-    ensures { λ r. ⌜ (r ≡ widthNumber (bracketWidthOf shift max)) × (now (width .exit) ≡ widthAfter (bracketWidthOf shift max) (now (width .entry))) ⌝ }
+    ensures { λ n. ⌜ (n, now (width .exit)) ≡ badgeBracketWidth shift max (now (width .entry)) ⌝ }
 {
     match mixing::bracket_width(shift, max) {
         Width::Of(w) => {
@@ -132,7 +122,7 @@ pub extern "C" fn badge_lerp(
     b: u8,
     clamp: u32,
 ) -> f32
-    ensures { λ t. ⌜ t ≡ lerpOf (opaqueRgb r1 g1 b1) (opaqueRgb r2 g2 b2) (opaqueRgb r g b) (not (eqb clamp 0)) ⌝ }
+    ensures { λ t. ⌜ t ≡ badgeLerp r1 g1 b1 r2 g2 b2 r g b clamp ⌝ }
 {
     let c1 = NormalizedColor::new(r1, g1, b1, 255);
     let c2 = NormalizedColor::new(r2, g2, b2, 255);
@@ -153,8 +143,7 @@ pub extern "C" fn badge_nearest(
     b: u8,
     position: &mut u32,
 ) -> u32
-    ensures { λ n. ⌜ (n ≡ nearestNumber (nearestRgb (now (reduced .entry)) (now (normalized .entry)) (now (oklab .entry)) r g b))
-        × (now (position .exit) ≡ positionAfter (nearestRgb (now (reduced .entry)) (now (normalized .entry)) (now (oklab .entry)) r g b) (now (position .entry))) ⌝ }
+    ensures { λ n. ⌜ (n, now (position .exit)) ≡ badgeNearest (now (reduced .entry)) (now (normalized .entry)) (now (oklab .entry)) r g b (now (position .entry)) ⌝ }
 {
     let color = NormalizedColor::new(r, g, b, 255);
     match lookup::flat_nearest(reduced, normalized, oklab, color) {
@@ -190,9 +179,7 @@ pub extern "C" fn badge_nearest_two(
     first: &mut u32,
     second: &mut u32,
 ) -> u32
-    ensures { λ n. ⌜ (n ≡ nearestTwoNumber (nearestTwoRgb (now (reduced .entry)) (now (normalized .entry)) (now (oklab .entry)) r g b width))
-        × (now (first .exit) ≡ firstAfter (nearestTwoRgb (now (reduced .entry)) (now (normalized .entry)) (now (oklab .entry)) r g b width) (now (first .entry)))
-        × (now (second .exit) ≡ secondAfter (nearestTwoRgb (now (reduced .entry)) (now (normalized .entry)) (now (oklab .entry)) r g b width) (now (second .entry))) ⌝ }
+    ensures { λ n. ⌜ (n, now (first .exit), now (second .exit)) ≡ badgeNearestTwo (now (reduced .entry)) (now (normalized .entry)) (now (oklab .entry)) r g b width (now (first .entry)) (now (second .entry)) ⌝ }
 {
     let color = NormalizedColor::new(r, g, b, 255);
     match lookup::flat_nearest_two(reduced, normalized, oklab, color, width) {
@@ -237,10 +224,8 @@ pub extern "C" fn badge_ordered_bracket(
     light: &mut [u8],
     ratio: &mut f32,
 ) -> u32
-    ensures { λ n. ⌜ (n ≡ bracketNumber (bracketRgb (now (reduced .entry)) (now (normalized .entry)) (now (oklab .entry)) r g b width (now (dark .entry)) (now (light .entry))))
-        × (now (dark .exit) ≡ darkAfter (bracketRgb (now (reduced .entry)) (now (normalized .entry)) (now (oklab .entry)) r g b width (now (dark .entry)) (now (light .entry))) (now (dark .entry)))
-        × (now (light .exit) ≡ lightAfter (bracketRgb (now (reduced .entry)) (now (normalized .entry)) (now (oklab .entry)) r g b width (now (dark .entry)) (now (light .entry))) (now (light .entry)))
-        × (now (ratio .exit) ≡ ratioAfter (bracketRgb (now (reduced .entry)) (now (normalized .entry)) (now (oklab .entry)) r g b width (now (dark .entry)) (now (light .entry))) (now (ratio .entry))) ⌝ }
+    ensures { λ n. ⌜ (n, now (dark .exit), now (light .exit), now (ratio .exit))
+        ≡ badgeOrderedBracket (now (reduced .entry)) (now (normalized .entry)) (now (oklab .entry)) r g b width (now (dark .entry)) (now (light .entry)) (now (ratio .entry)) ⌝ }
 {
     if !((dark.len() == 4) & (light.len() == 4)) {
         return 3;
@@ -268,8 +253,7 @@ pub extern "C" fn badge_pick(
     y: u32,
     chosen: &mut [u8],
 ) -> u32
-    ensures { λ n. ⌜ (n ≡ pickNumber (pickRooms (now (dark .entry)) (now (light .entry)) ratio kind x y (now (chosen .entry))))
-        × (now (chosen .exit) ≡ chosenAfter (pickRooms (now (dark .entry)) (now (light .entry)) ratio kind x y (now (chosen .entry))) (now (chosen .entry))) ⌝ }
+    ensures { λ n. ⌜ (n, now (chosen .exit)) ≡ badgePick (now (dark .entry)) (now (light .entry)) ratio kind x y (now (chosen .entry)) ⌝ }
 {
     if kind > 10 {
         return 1;
@@ -307,10 +291,7 @@ pub extern "C" fn badge_candidate_colors_in(
     count: &mut u32,
 ) -> u32
     ensures { λ n. ⌜ (let x = lentTo shift width height (now (reduction .entry)) (now (scale .entry)) (now (pixels .entry)) (now (places .entry)) (now (oklab .entry)) in
-        (n ≡ lowest (replies x))
-        × (now (places .exit) ≡ placesAfter n x)
-        × (now (oklab .exit) ≡ oklabAfter n x)
-        × (now (count .exit) ≡ after n (length (candidatesIn x)) (now (count .entry)))) ⌝ }
+        (n, now (places .exit), now (oklab .exit), now (count .exit)) ≡ badgeCandidateColorsIn x (now (count .entry))) ⌝ }
 {
     match candidates::candidate_colors_in(
         shift,
@@ -346,10 +327,7 @@ pub extern "C" fn badge_quantize_pixels(
     cells: &mut [f32],
 ) -> u32
     ensures { λ n. ⌜ (let q = order shift kind width height (now (reduction .entry)) (now (scale .entry)) (now (palette .entry)) (now (pixels .entry)) in
-        (n ≡ numberFor shift kind width height (lengthsOf q (now (indices .entry)) (now (out .entry)) (now (cells .entry))))
-        × (now (indices .exit) ≡ after n (indicesOf q) (now (indices .entry)))
-        × (now (out .exit) ≡ after n (pixelsOf q) (now (out .entry)))
-        × (now (cells .exit) ≡ after n (cellsAfter (quantizing q) (now (cells .entry))) (now (cells .entry)))) ⌝ }
+        (n, now (indices .exit), now (out .exit), now (cells .exit)) ≡ badgeQuantizePixels q (now (indices .entry)) (now (out .entry)) (now (cells .entry))) ⌝ }
 {
     match quantize::quantize_pixels(
         shift,
@@ -408,13 +386,9 @@ pub extern "C" fn badge_dither_to_mode(
 ) -> u32
     ensures { λ n. ⌜ (let q = mode.order (settingsOf shift kind width height «origin_x» «origin_y» «tile_width» «tile_height» limit (zeroOf «has_zero» «zero_r» «zero_g» «zero_b» «zero_a»))
         (now (reduction .entry)) (now (scale .entry)) (now (pixels .entry)) in
-        (n ≡ mode.numberFor q (mode.buffers (now (places .entry)) (now (oklab .entry)) (now (out .entry)) (now (cells .entry))))
-        × (now (places .exit) ≡ mode.placesAfter n q (now (places .entry)))
-        × (now (oklab .exit) ≡ mode.oklabAfter n q (now (oklab .entry)))
-        × (now (out .exit) ≡ mode.outAfter n q (now (out .entry)))
-        × (now (cells .exit) ≡ mode.cellsLeft n q (now (cells .entry)))
-        × (now (count .exit) ≡ mode.leaves n (length (mode.candidateList q)) (length (mode.candidateList q)) (now (count .entry)))
-        × (now (tile .exit) ≡ mode.leaves n (now (tile .entry)) (mode.tileOver q) (now (tile .entry)))) ⌝ }
+        let was = mode.buffers (now (places .entry)) (now (oklab .entry)) (now (out .entry)) (now (cells .entry)) in
+        let then = mode.buffers (now (places .exit)) (now (oklab .exit)) (now (out .exit)) (now (cells .exit)) in
+        (n, then, now (count .exit), now (tile .exit)) ≡ badgeDitherToMode q was (now (count .entry)) (now (tile .entry))) ⌝ }
 {
     let settings = Settings {
         kind,

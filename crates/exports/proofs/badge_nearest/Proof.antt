@@ -1,8 +1,8 @@
 -- `exports::badge_nearest` meets its contract: the answer's case decides the number and what is written; the position fits. Assumes nothing.
 use native.Mathlib.Omega.{arith}
 use Rattle.lookup.specs.Answers.{nearestAnswer}
-use Rattle.exports.specs.Lookups.{nearestNumber, positionAfter}
-use Rattle.exports.proofs.AnswerLaws.{by-case, of-rgb}
+use Rattle.exports.specs.Lookups.{foundLeft}
+use Rattle.exports.proofs.AnswerLaws.{left-by, of-rgb}
 use Rattle.exports.proofs.LookupLaws.{position-small}
 use borrow.Author.Needs.{needs}
 use Rattle.exports.proofs.badge_nearest.Statement.{statement}
@@ -35,15 +35,15 @@ returns : tie.Need-returns
 returns c =
     let n = c .before .before .before .before .new in
     let a = c .before .before .before .before .before .before .before .before .args in
-    by-case nearestNumber positionAfter _ _ _
-    (of-rgb (nearestAnswer (a .reduced .now) (a .normalized .now) (a .oklab .now)) (n .result) (a .r) (a .g) (a .b) _ _ (n .ensures) (c .before .before .before .flat-nearest .ensures) (c .before .k .given .1))
+    left-by (foundLeft _)
+    (of-rgb (nearestAnswer (a .reduced .now) (a .normalized .now) (a .oklab .now)) (n .result) (a .r) (a .g) (a .b) (n .ensures) (c .before .before .before .flat-nearest .ensures) (c .before .k .given .1))
 
 returns-2 : tie.Need-returns-2
 returns-2 c =
     let n = c .before .before .before .before .new in
     let a = c .before .before .before .before .before .before .before .before .args in
-    by-case nearestNumber positionAfter _ _ _
-    (of-rgb (nearestAnswer (a .reduced .now) (a .normalized .now) (a .oklab .now)) (n .result) (a .r) (a .g) (a .b) _ _ (n .ensures) (c .before .before .before .flat-nearest .ensures) (c .before .number .given .1))
+    left-by (foundLeft _)
+    (of-rgb (nearestAnswer (a .reduced .now) (a .normalized .now) (a .oklab .now)) (n .result) (a .r) (a .g) (a .b) (n .ensures) (c .before .before .before .flat-nearest .ensures) (c .before .number .given .1))
 
 pub badge-nearest-spec : {M : Type 1} → statement M
 badge-nearest-spec =

@@ -3,8 +3,9 @@ use native.Mathlib.Omega.{arith}
 use mathlib.Core.Path.{_∙_}
 use Rattle.lookup.specs.Answers.{nearestTwoAnswer}
 use Rattle.color.specs.declared.NormalizedColor.{NormalizedColor}
-use Rattle.exports.proofs.AnswerLaws.{of-rgb}
-use Rattle.exports.proofs.LookupLaws.{two-by-case, positions-small}
+use Rattle.exports.specs.Lookups.{twoLeft}
+use Rattle.exports.proofs.AnswerLaws.{left-by, of-rgb}
+use Rattle.exports.proofs.LookupLaws.{positions-small}
 use borrow.Author.Needs.{needs}
 use Rattle.exports.proofs.badge_nearest_two.Statement.{statement}
 use Rattle.exports.proofs.badge_nearest_two.Tie as tie
@@ -47,16 +48,15 @@ returns : tie.Need-returns
 returns c =
     let n = c .before .before .before .before .before .before .new in
     let a = c .before .before .before .before .before .before .before .before .before .before .args in
-    let e = of-rgb (λ (u : NormalizedColor). nearestTwoAnswer (a .reduced .now) (a .normalized .now) (a .oklab .now) u (a .width)) (n .result) (a .r) (a .g) (a .b) _ _ (n .ensures) (c .before .before .before .before .before .flat-nearest-two .ensures) (c .before .before .before .two .given .1) in
-    let t = two-by-case _ _ (a .first .now) (a .second .now) e in
-    (t .0, t .1, c .second-of .ensures ∙ t .2)
+    let e = of-rgb (λ (u : NormalizedColor). nearestTwoAnswer (a .reduced .now) (a .normalized .now) (a .oklab .now) u (a .width)) (n .result) (a .r) (a .g) (a .b) (n .ensures) (c .before .before .before .before .before .flat-nearest-two .ensures) (c .before .before .before .two .given .1) in
+    (λ i. (0, c .before .before .before .two .given .0 .0 .first, c .second-of .ensures i)) ∙ left-by (twoLeft (a .first .now) (a .second .now)) e
 
 returns-2 : tie.Need-returns-2
 returns-2 c =
     let n = c .before .before .before .before .new in
     let a = c .before .before .before .before .before .before .before .before .args in
-    let e = of-rgb (λ (u : NormalizedColor). nearestTwoAnswer (a .reduced .now) (a .normalized .now) (a .oklab .now) u (a .width)) (n .result) (a .r) (a .g) (a .b) _ _ (n .ensures) (c .before .before .before .flat-nearest-two .ensures) (c .before .number .given .1) in
-    two-by-case _ _ (a .first .now) (a .second .now) e
+    let e = of-rgb (λ (u : NormalizedColor). nearestTwoAnswer (a .reduced .now) (a .normalized .now) (a .oklab .now) u (a .width)) (n .result) (a .r) (a .g) (a .b) (n .ensures) (c .before .before .before .flat-nearest-two .ensures) (c .before .number .given .1) in
+    left-by (twoLeft (a .first .now) (a .second .now)) e
 
 pub badge-nearest-two-spec : {M : Type 1} → statement M
 badge-nearest-two-spec =

@@ -3,8 +3,9 @@ use mathlib.Core.Path.{_∙_}
 use lib.ListN.{length}
 use Rattle.color.specs.declared.NormalizedColor.{NormalizedColor}
 use Rattle.lookup.specs.Answers.{bracketAnswer}
-use Rattle.exports.proofs.AnswerLaws.{of-rgb}
-use Rattle.exports.proofs.LookupLaws.{bracket-by-case, both-four, bracket-lengths, bracket-four}
+use Rattle.exports.specs.Lookups.{bracketLeft}
+use Rattle.exports.proofs.AnswerLaws.{left-by, of-rgb}
+use Rattle.exports.proofs.LookupLaws.{both-four, bracket-lengths, bracket-four}
 use borrow.Author.Needs.{needs}
 use Rattle.exports.proofs.badge_ordered_bracket.Statement.{statement}
 use Rattle.exports.proofs.badge_ordered_bracket.Tie as tie
@@ -12,7 +13,7 @@ use Rattle.exports.proofs.badge_ordered_bracket.Tie as tie
 returns : tie.Need-returns
 returns c =
     let a = c .before .before .before .before .before .before .args in
-    bracket-by-case _ _ (a .dark .now) (a .light .now) (a .ratio .now) (bracket-lengths (a .reduced .now) (a .normalized .now) (a .oklab .now) (a .r) (a .g) (a .b) (a .width) (a .dark .now) (a .light .now) (c .if1 .taken))
+    left-by (bracketLeft (a .dark .now) (a .light .now) (a .ratio .now)) (bracket-lengths (a .reduced .now) (a .normalized .now) (a .oklab .now) (a .r) (a .g) (a .b) (a .width) (a .dark .now) (a .light .now) (c .if1 .taken))
 
 new-requires : tie.Need-new-requires
 new-requires c κs = search needs
@@ -46,17 +47,16 @@ returns-2 c =
     let n = c .before .before .before .before .before .before .before .before .before .before .before .before .new in
     let a = c .before .before .before .before .before .before .before .before .before .before .before .before .before .before .before .before .before .before .before .args in
     let e = bracket-four (a .reduced .now) (a .normalized .now) (a .oklab .now) (a .r) (a .g) (a .b) (a .width) (a .dark .now) (a .light .now) (c .before .before .before .before .before .before .before .before .before .before .before .before .before .if1 .left)
-    ∙ of-rgb (λ (u : NormalizedColor). bracketAnswer (a .reduced .now) (a .normalized .now) (a .oklab .now) u (a .width)) (n .result) (a .r) (a .g) (a .b) _ _ (n .ensures) (c .before .before .before .before .before .before .before .before .before .before .before .flat-ordered-bracket .ensures) (c .before .before .before .before .before .before .before .before .before .bracket .given .1) in
-    let t = bracket-by-case _ _ (a .dark .now) (a .light .now) (a .ratio .now) e in
-    (t .0, c .before .before .before .before .before .before .put-color .ensures ∙ t .1, c .before .before .put-color2 .ensures ∙ t .2, t .3)
+    ∙ of-rgb (λ (u : NormalizedColor). bracketAnswer (a .reduced .now) (a .normalized .now) (a .oklab .now) u (a .width)) (n .result) (a .r) (a .g) (a .b) (n .ensures) (c .before .before .before .before .before .before .before .before .before .before .before .flat-ordered-bracket .ensures) (c .before .before .before .before .before .before .before .before .before .bracket .given .1) in
+    (λ i. (0, c .before .before .before .before .before .before .put-color .ensures i, c .before .before .put-color2 .ensures i, c .before .before .before .before .before .before .before .before .before .bracket .given .0 .0 .ratio)) ∙ left-by (bracketLeft (a .dark .now) (a .light .now) (a .ratio .now)) e
 
 returns-3 : tie.Need-returns-3
 returns-3 c =
     let n = c .before .before .before .before .new in
     let a = c .before .before .before .before .before .before .before .before .before .before .before .args in
-    bracket-by-case _ _ (a .dark .now) (a .light .now) (a .ratio .now)
+    left-by (bracketLeft (a .dark .now) (a .light .now) (a .ratio .now))
     (bracket-four (a .reduced .now) (a .normalized .now) (a .oklab .now) (a .r) (a .g) (a .b) (a .width) (a .dark .now) (a .light .now) (c .before .before .before .before .before .if1 .left)
-    ∙ of-rgb (λ (u : NormalizedColor). bracketAnswer (a .reduced .now) (a .normalized .now) (a .oklab .now) u (a .width)) (n .result) (a .r) (a .g) (a .b) _ _ (n .ensures) (c .before .before .before .flat-ordered-bracket .ensures) (c .before .number .given .1))
+    ∙ of-rgb (λ (u : NormalizedColor). bracketAnswer (a .reduced .now) (a .normalized .now) (a .oklab .now) u (a .width)) (n .result) (a .r) (a .g) (a .b) (n .ensures) (c .before .before .before .flat-ordered-bracket .ensures) (c .before .number .given .1))
 
 pub badge-ordered-bracket-spec : {M : Type 1} → statement M
 badge-ordered-bracket-spec =

@@ -1,7 +1,7 @@
 -- `exports::badge_ordered_threshold` meets its contract: the answer's case decides the number and what is written. Assumes nothing.
 use mathlib.Core.Path.{_∙_, sym}
-use Rattle.exports.specs.Answers.{thresholdNumber, thresholdAfter}
-use Rattle.exports.proofs.AnswerLaws.{by-case}
+use Rattle.exports.specs.Answers.{thresholdLeft}
+use Rattle.exports.proofs.AnswerLaws.{left-by}
 use borrow.Author.Needs.{needs}
 use Rattle.exports.proofs.badge_ordered_threshold.Statement.{statement}
 use Rattle.exports.proofs.badge_ordered_threshold.Tie as tie
@@ -19,10 +19,10 @@ cast-result : tie.Need-cast-result
 cast-result c = search needs
 
 returns : tie.Need-returns
-returns c = by-case thresholdNumber thresholdAfter _ _ _ (sym (c .before .before .before .ordered-threshold .ensures) ∙ c .before .t .given .1)
+returns c = left-by (thresholdLeft _) (sym (c .before .before .before .ordered-threshold .ensures) ∙ c .before .t .given .1)
 
 returns-2 : tie.Need-returns-2
-returns-2 c = by-case thresholdNumber thresholdAfter _ _ _ (sym (c .before .before .before .ordered-threshold .ensures) ∙ c .before .number .given .1)
+returns-2 c = left-by (thresholdLeft _) (sym (c .before .before .before .ordered-threshold .ensures) ∙ c .before .number .given .1)
 
 pub badge-ordered-threshold-spec : {M : Type 1} → statement M
 badge-ordered-threshold-spec =

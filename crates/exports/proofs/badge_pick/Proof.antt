@@ -1,8 +1,8 @@
 -- `exports::badge_pick` meets its contract: 1, then 3, else the answer's case decides. Assumes nothing.
 use mathlib.Core.Path.{_∙_}
 use lib.ListN.{length}
-use Rattle.exports.specs.Lookups.{pickNumber, chosenAfter}
-use Rattle.exports.proofs.AnswerLaws.{by-case}
+use Rattle.exports.specs.Lookups.{pickedLeft}
+use Rattle.exports.proofs.AnswerLaws.{left-by}
 use Rattle.exports.proofs.LookupLaws.{all-three-four, pick-kind, pick-lengths, pick-is}
 use borrow.Author.Needs.{needs}
 use Rattle.exports.proofs.badge_pick.Statement.{statement}
@@ -11,12 +11,12 @@ use Rattle.exports.proofs.badge_pick.Tie as tie
 returns : tie.Need-returns
 returns c =
     let a = c .before .before .before .before .args in
-    by-case pickNumber chosenAfter _ _ _ (pick-kind (a .dark .now) (a .light .now) (a .ratio) (a .kind) (a .x) (a .y) (a .chosen .now) (c .if1 .taken))
+    left-by (pickedLeft (a .chosen .now)) (pick-kind (a .dark .now) (a .light .now) (a .ratio) (a .kind) (a .x) (a .y) (a .chosen .now) (c .if1 .taken))
 
 returns-2 : tie.Need-returns-2
 returns-2 c =
     let a = c .before .before .before .before .before .args in
-    by-case pickNumber chosenAfter _ _ _ (pick-lengths (a .dark .now) (a .light .now) (a .ratio) (a .kind) (a .x) (a .y) (a .chosen .now) (c .before .if1 .left) (c .if2 .taken))
+    left-by (pickedLeft (a .chosen .now)) (pick-lengths (a .dark .now) (a .light .now) (a .ratio) (a .kind) (a .x) (a .y) (a .chosen .now) (c .before .if1 .left) (c .if2 .taken))
 
 color-in-requires : tie.Need-color-in-requires
 color-in-requires c κs = let a = c .before .before .before .before .before .args in all-three-four (length (a .dark .now)) (length (a .light .now)) (length (a .chosen .now)) (c .if2 .left) .0
@@ -47,16 +47,16 @@ returns-3 c =
     let a = c .before .before .before .before .before .before .before .before .before .before .before .before .before .before .before .args in
     let d = c .before .before .before .before .before .before .before .before .before .color-in in
     let l = c .before .before .before .before .before .before .before .before .color-in2 in
-    let t = by-case pickNumber chosenAfter _ _ (a .chosen .now)
-    (pick-is (a .dark .now) (a .light .now) (a .ratio) (a .kind) (a .x) (a .y) (a .chosen .now) (c .before .before .before .before .before .before .before .before .before .before .before .if1 .left) (c .before .before .before .before .before .before .before .before .before .before .if2 .left) (d .result) (l .result) (d .ensures) (l .ensures) _ _ (c .before .before .before .before .before .before .before .pick .ensures) (c .before .before .before .before .before .color .given .1)) in
-    (t .0, c .before .before .put-color .ensures ∙ t .1)
+    (λ i. (0, c .before .before .put-color .ensures i))
+    ∙ left-by (pickedLeft (a .chosen .now))
+    (pick-is (a .dark .now) (a .light .now) (a .ratio) (a .kind) (a .x) (a .y) (a .chosen .now) (c .before .before .before .before .before .before .before .before .before .before .before .if1 .left) (c .before .before .before .before .before .before .before .before .before .before .if2 .left) (d .result) (l .result) (d .ensures) (l .ensures) _ _ (c .before .before .before .before .before .before .before .pick .ensures) (c .before .before .before .before .before .color .given .1))
 
 returns-4 : tie.Need-returns-4
 returns-4 c =
     let a = c .before .before .before .before .before .before .before .before .before .before .before .args in
     let d = c .before .before .before .before .before .color-in in
     let l = c .before .before .before .before .color-in2 in
-    by-case pickNumber chosenAfter _ _ _
+    left-by (pickedLeft (a .chosen .now))
     (pick-is (a .dark .now) (a .light .now) (a .ratio) (a .kind) (a .x) (a .y) (a .chosen .now) (c .before .before .before .before .before .before .before .if1 .left) (c .before .before .before .before .before .before .if2 .left) (d .result) (l .result) (d .ensures) (l .ensures) _ _ (c .before .before .before .pick .ensures) (c .before .number .given .1))
 
 pub badge-pick-spec : {M : Type 1} → statement M

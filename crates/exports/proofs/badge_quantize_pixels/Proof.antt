@@ -1,9 +1,13 @@
 -- `exports::badge_quantize_pixels` meets its contract: the answer's case decides the number. Assumes nothing.
-use Rattle.quantize.specs.Quantize.{order}
+use Rattle.quantize.specs.Quantize.{Order, order}
 use Rattle.exports.proofs.PictureLaws.{quantized-by-case}
 use borrow.Author.Needs.{needs}
 use Rattle.exports.proofs.badge_quantize_pixels.Statement.{statement}
 use Rattle.exports.proofs.badge_quantize_pixels.Tie as tie
+
+-- what is asked for
+abbrev asked : tie.Start → Order
+asked s = let a = s .args in order (a .shift) (a .kind) (a .width) (a .height) (a .reduction .now) (a .scale .now) (a .palette .now) (a .pixels .now)
 
 quantize-pixels-requires : tie.Need-quantize-pixels-requires
 quantize-pixels-requires c κs = search needs
@@ -28,9 +32,9 @@ same-length-3 c = search needs
 
 returns : tie.Need-returns
 returns c =
-    let a = c .before .before .before .before .before .before .before .before .before .before .before .before .before .before .before .before .before .before .before .args in
-    let p = c .before .before .before .before .before .before .before .before .quantize-pixels in
-    quantized-by-case (order (a .shift) (a .kind) (a .width) (a .height) (a .reduction .now) (a .scale .now) (a .palette .now) (a .pixels .now)) (a .indices .now) (a .out .now) (a .cells .now) (p .result) _ _ _ _ (p .ensures) (c .enum-told .given .1)
+    let p = c .before .before .before .before .before .before .before .before in
+    let s = p .before .before .before .before .before .before .before .before .before .before .before in
+    quantized-by-case (asked s) (s .args .indices .now) (s .args .out .now) (s .args .cells .now) (p .quantize-pixels .ensures) (c .enum-told .given .1)
 
 same-length-4 : tie.Need-same-length-4
 same-length-4 c = search needs
@@ -43,9 +47,9 @@ same-length-6 c = search needs
 
 returns-2 : tie.Need-returns-2
 returns-2 c =
-    let a = c .before .before .before .before .before .before .before .before .before .before .before .before .before .before .before .before .before .before .before .before .args in
-    let p = c .before .before .before .before .before .before .before .before .before .quantize-pixels in
-    quantized-by-case (order (a .shift) (a .kind) (a .width) (a .height) (a .reduction .now) (a .scale .now) (a .palette .now) (a .pixels .now)) (a .indices .now) (a .out .now) (a .cells .now) (p .result) _ _ _ _ (p .ensures) (c .before .number .given .1)
+    let p = c .before .before .before .before .before .before .before .before .before in
+    let s = p .before .before .before .before .before .before .before .before .before .before .before in
+    quantized-by-case (asked s) (s .args .indices .now) (s .args .out .now) (s .args .cells .now) (p .quantize-pixels .ensures) (c .before .number .given .1)
 
 pub badge-quantize-pixels-spec : {M : Type 1} → statement M
 badge-quantize-pixels-spec =
