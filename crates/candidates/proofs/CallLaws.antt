@@ -1,6 +1,7 @@
 -- The public call: what is known where no check refuses (`accepted`), and its answers: refused by a check (`call-refused`), or collected (`call-collected`).
--- Two results that satisfy its promise are equal (`colors-only`). Assumes nothing.
-use mathlib.Core.Path.{_≡_, refl, sym, ap, _∙_}
+-- The number of what it answers is the lowest that applies (`number-is`), and two results that satisfy its promise are equal (`colors-only`).
+-- Assumes nothing.
+use mathlib.Core.Path.{_≡_, refl, sym, ap, _∙_, subst}
 use mathlib.Core.Bool.{Bool, true, false, cond, not}
 use mathlib.Core.List.{List, [], _∷_}
 use Prim.Native.Nat.{ℕ, zero, suc, _*_, _/_, _%_, _≤_}
@@ -9,10 +10,10 @@ use borrow.Author.Tests.{ltb-false, ne-eqb}
 use lib.Dec.{ltb, eqb}
 use lib.Ieee.{Float}
 use lib.ListN.{length, replicate}
-use Rattle.lists.specs.Lowest.{Reply, _if_, lowest, after}
+use Rattle.lists.specs.Lowest.{Reply, _if_, lowest, Lowest, after}
 use Rattle.lists.specs.Unique.{Unique}
 use Rattle.lists.proofs.Bools.{or-split, equals}
-use Rattle.lists.proofs.LowestLaws.{NoneApplies, lowest-zero, lowest-none, lowest-at, lowest-front, lowest-upto, after-refused}
+use Rattle.lists.proofs.LowestLaws.{NoneApplies, lowest-zero, lowest-none, lowest-at, lowest-front, lowest-upto, lowest-is, after-refused}
 use Rattle.picture.specs.Bounds.{tableWrong}
 use Rattle.picture.proofs.BoundLaws.{sized}
 use Rattle.candidates.specs.Rooms.{placesWith, oklabWith, tooMany, Collects}
@@ -114,6 +115,9 @@ module _ (x : Lent) where
       go false t =
           call-is 0 (lowest-zero (replies x) (none .0, (none .1 .0, (none .1 .1 .0, (t, tt))))) (ap (λ (q : Collected). numberOf (answer-from q)) (answer t)) (ap answer-from (answer t)) (bytes t) (floats t)
 
-  -- ---- one result
+  -- ---- the number, and one result
+  pub number-is : {r : CandidateCount} {places : List ℕ} {oklab : List Float} → CandidateColors x r places oklab → Lowest (replies x) (numberOf r)
+  number-is p = subst (Lowest (replies x)) (sym (p .number)) (lowest-is (replies x) tt)
+
   pub colors-only : Unique (λ (y : CandidateCount × List ℕ × List Float). CandidateColors x (y .0) (y .1) (y .2))
   colors-only y z p q = λ i. ((p .answer ∙ sym (q .answer)) i, (p .bytes ∙ sym (q .bytes)) i, (p .floats ∙ sym (q .floats)) i)

@@ -20,7 +20,6 @@ use Rattle.conversion.proofs.NearestLaws.{nearest-size}
 
 -- what is to be divided, with the sums of either sign together
 pub a-parts : (l m s : ℕ) → nearest 10000000000 (pos (19779984951 * l + 4505937099 * s) -ℤ pos (24285922050 * m)) ≡ aOf l m s
-unfolding aOf
 a-parts l m s = ap (nearest 10000000000) (moved (pos (19779984951 * l)) (pos (24285922050 * m)) (pos (4505937099 * s)))
   where
     moved : (x y z : ℤ) → x +ℤ z -ℤ y ≡ x -ℤ y +ℤ z
@@ -46,7 +45,6 @@ module _ (r g b : ℕ) (h : AtMost 100000000 r g b) where
 -- ---- how large L, a, b are
 module _ (l m s : ℕ) (h : AtMost 1000000 l m s) where
   lightness-size : natAbs (lightnessOf l m s) ≤ 2000000
-  unfolding lightnessOf
   lightness-size = nearest-size 10000000000 2000000 (2104542553 * l + 7936177850 * m) (40720468 * s) (omega arith) (omega arith) (omega arith)
 
   a-size : s ≤ 2 * m + 1 → m ≤ 2 * l + 1 → natAbs (aOf l m s) ≤ 2000000
@@ -54,7 +52,6 @@ module _ (l m s : ℕ) (h : AtMost 1000000 l m s) where
       rw (← a-parts l m s) (nearest-size 10000000000 2000000 (19779984951 * l + 4505937099 * s) (24285922050 * m) (omega arith) (omega arith) (omega arith))
 
   b-size : natAbs (bOf l m s) ≤ 2000000
-  unfolding bOf
   b-size = nearest-size 10000000000 2000000 (259040371 * l + 7827717662 * m) (8086757660 * s) (omega arith) (omega arith) (omega arith)
 
 -- ---- every component is from -2 to 2

@@ -26,13 +26,13 @@ abbrev pub sOf : ℕ → ℕ → ℕ → ℕ
 sOf r g b = 883024619 * r + 2817188376 * g + 6299787005 * b
 
 -- L, a, b in millionths from l', m', s'
-unfoldable pub lightnessOf : ℕ → ℕ → ℕ → ℤ
+abbrev pub lightnessOf : ℕ → ℕ → ℕ → ℤ
 lightnessOf l m s = nearest (10 ^ 10) (pos (2104542553 * l) +ℤ pos (7936177850 * m) -ℤ pos (40720468 * s))
 
-unfoldable pub aOf : ℕ → ℕ → ℕ → ℤ
+abbrev pub aOf : ℕ → ℕ → ℕ → ℤ
 aOf l m s = nearest (10 ^ 10) (pos (19779984951 * l) -ℤ pos (24285922050 * m) +ℤ pos (4505937099 * s))
 
-unfoldable pub bOf : ℕ → ℕ → ℕ → ℤ
+abbrev pub bOf : ℕ → ℕ → ℕ → ℤ
 bOf l m s = nearest (10 ^ 10) (pos (259040371 * l) +ℤ pos (7827717662 * m) -ℤ pos (8086757660 * s))
 
 pub record Millionths : Type 0 where

@@ -15,10 +15,10 @@ use Rattle.lists.proofs.GatherLaws.{gather-only}
 use Rattle.floats.specs.Over.{sixteenths}
 use Rattle.floats.proofs.Int.{times-add}
 use Rattle.patterns.specs.Kernel.{Target, Place, pixel, outside, landing, total, later}
-use Rattle.diffusion.specs.Diffusion.{Picture, channel, isAt, weightTo, residualOf, received, cell, residual, Alike}
+use Rattle.diffusion.specs.Diffusion.{Picture, channel, isAt, weightTo, residualOf, received, cell, residual}
 use Rattle.diffusion.specs.Scatter.{more, send, sends, leftOver, scatter, Holds, cellsAt, cellBuffer}
 use Rattle.diffusion.proofs.Channels.{by-channel, by-pixel}
-use Rattle.diffusion.proofs.Received.{settled, bound, part-way, fewer, residual-same}
+use Rattle.diffusion.proofs.Received.{settled, bound, part-way}
 
 -- ---- one cell
 pub more-length : (cells : List ℤ) (at : ℕ) (z : ℤ) → length (more cells at z) ≡ length cells
@@ -207,15 +207,3 @@ module _ (k : List Target) (p : Picture) where
       List·getD-map sixteenths cells (3 * i + a) (pos 0)
       ∙ ap sixteenths (h .each a i A l ∙ settled k (channel p a) s all i (le-of-lt l))
       ∙ sym (three (λ a. cell k (channel p a) i) a A))
-
--- ---- another picture that is the same before the pixel n
-pub scatter-same : (k : List Target) (p p′ : Picture) (n : ℕ) → ((a : ℕ) → a < 3 → Alike (channel p a) (channel p′ a) n) → scatter k p n ≡ scatter k p′ n
-unfolding scatter
-scatter-same k p p′ zero s = λ q. replicate (3 * (s 0 (lit< tt) .width q * s 0 (lit< tt) .height q)) (pos 0)
-scatter-same k p p′ (suc n) s =
-    let same : scatter k p n ≡ scatter k p′ n = scatter-same k p p′ n (λ a A. fewer (channel p a) (channel p′ a) (suc n) n (omega arith) (s a A)) in
-    sends-same (leftOver p n (scatter k p n)) (leftOver p′ n (scatter k p n)) (p .width) (p .height) n
-    (λ a A. residual-same (channel p a) (channel p′ a) (suc n) n (getD (scatter k p n) (3 * n + a) (pos 0)) (omega arith) (s a A))
-    k
-    (scatter k p n)
-    ∙ (λ q. sends (same q) (leftOver p′ n (same q)) k (s 0 (lit< tt) .width q) (s 0 (lit< tt) .height q) n)

@@ -1,8 +1,8 @@
 -- A pixel's column and row, the machine's sums and tests of them, and the place that they lead to. Assumes nothing.
 use mathlib.Core.Path.{_≡_, refl, sym, _∙_, subst}
 use mathlib.Core.Bool.{Bool, true, false, cond, _&&_}
-use Prim.Native.Nat.{ℕ, zero, suc, _+_, _*_, _/_, _%_, _≤_, _<_}
-use native.Mathlib.Nat.{le-refl, lt-of-lt-of-le, mul-le-mul, zero-mul, mul-comm, mod-lt, div-lt-iff-lt-mul, not-suc-le-zero}
+use Prim.Native.Nat.{ℕ, _+_, _*_, _≤_, _<_}
+use native.Mathlib.Nat.{le-refl, lt-of-lt-of-le, mul-le-mul}
 use native.Mathlib.Omega.{arith}
 use lib.Arith.{digits-div, digits-mod}
 use lib.Dec.{T, ltb, ltb→lt, lt→ltb, lit≤}
@@ -13,20 +13,6 @@ use mir.Val.{toZ, ofZ, SFits}
 use mir.ValLaws.{toZ-ofZ, toZ-pos}
 use Rattle.floats.proofs.Int.{sum-size}
 use Rattle.patterns.specs.Kernel.{Target, pixel, outside, place, landing}
-use Rattle.diffusion.specs.Sends.{Spot}
-
--- the column and row of the pixel n
-some-width : (w h n : ℕ) → n < w * h → 0 < w
-some-width zero h n l = absurd (not-suc-le-zero (subst (λ (m : ℕ). n < m) (zero-mul h) l))
-some-width (suc w) h n l = omega arith
-
-pub spot-of : (w h n : ℕ) → w ≤ 4096 → h ≤ 4096 → n < w * h → Spot w h (n % w) (n / w)
-spot-of w h n W H l = record {
-  column = mod-lt n (some-width w h n l);
-  row = div-lt-iff-lt-mul (some-width w h n l) .1 (subst (λ (m : ℕ). n < m) (mul-comm w h) l);
-  wide = W;
-  high = H;
-}
 
 -- the landing of the pixel in column x and row y
 pub landing-at : (w h x y : ℕ) (t : Target) → x < w → landing w h (y * w + x) t ≡ place w h (pos x +ℤ t .dx) (y + t .dy)

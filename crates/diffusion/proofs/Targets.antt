@@ -12,13 +12,14 @@ use lib.IntN.{ℤ, pos, natAbs, _+ℤ_, _*ℤ_}
 use lib.ListN.{length, getD, take, length-map, List·getD-map}
 use lib.Seq.{take-suc}
 use lib.Ieee.{Float, nan}
+use lib.Ieee.Fits.{and-l, and-r}
 use mir.Syntax.{w32}
 use mir.Val.{toZ, ofZ}
 use mir.ValLaws.{toZ-ofZ}
+use Rattle.lists.proofs.OrderLaws.{any-default}
 use Rattle.floats.specs.Over.{sixteenths}
 use Rattle.floats.proofs.Int.{sum-bound, product-bound}
 use Rattle.patterns.specs.Kernel.{Target, target, Place, place, landing, total, near, allNear, Arrays}
-use Rattle.patterns.proofs.Computed.{both-left, both-right}
 use Rattle.diffusion.specs.Diffusion.{weightTo}
 use Rattle.diffusion.specs.Scatter.{send, sends}
 use Rattle.diffusion.specs.Sends.{Residuals}
@@ -30,24 +31,18 @@ use Rattle.diffusion.proofs.Spots.{mag-size, landing-at}
 abbrev pub none : Target
 none = target (pos 0) 0 0
 
--- within a list what stands past its end does not count
-any-default : {X : Type 0} (l : List X) (m : ℕ) (d e : X) → m < length l → getD l m d ≡ getD l m e
-any-default [] m d e h = absurd (not-suc-le-zero h)
-any-default (x ∷ l) zero d e h = refl
-any-default (x ∷ l) (suc m) d e h = any-default l m d e (le-of-suc-le-suc h)
-
 near-at : (k : List Target) (m : ℕ) → T (allNear k) → m < length k → T (near (getD k m none))
 unfolding allNear
 near-at [] m s h = absurd (not-suc-le-zero h)
-near-at (t ∷ k) zero s h = both-left (near t) (allNear k) s
-near-at (t ∷ k) (suc m) s h = near-at k m (both-right (near t) (allNear k) s) (le-of-suc-le-suc h)
+near-at (t ∷ k) zero s h = and-l (near t) (allNear k) s
+near-at (t ∷ k) (suc m) s h = near-at k m (and-r (near t) (allNear k) s) (le-of-suc-le-suc h)
 
 near-parts : (t : Target) → T (near t) → (natAbs (t .dx) ≤ 16) × (t .dy ≤ 16) × (0 < t .weight)
 near-parts t s =
-    let rest = both-right (leb (natAbs (t .dx)) 16) (leb (t .dy) 16 && ltb 0 (t .weight)) s in (
-      leb→le (natAbs (t .dx)) 16 (both-left (leb (natAbs (t .dx)) 16) (leb (t .dy) 16 && ltb 0 (t .weight)) s),
-      leb→le (t .dy) 16 (both-left (leb (t .dy) 16) (ltb 0 (t .weight)) rest),
-      ltb→lt 0 (t .weight) (both-right (leb (t .dy) 16) (ltb 0 (t .weight)) rest),
+    let rest = and-r (leb (natAbs (t .dx)) 16) (leb (t .dy) 16 && ltb 0 (t .weight)) s in (
+      leb→le (natAbs (t .dx)) 16 (and-l (leb (natAbs (t .dx)) 16) (leb (t .dy) 16 && ltb 0 (t .weight)) s),
+      leb→le (t .dy) 16 (and-l (leb (t .dy) 16) (ltb 0 (t .weight)) rest),
+      ltb→lt 0 (t .weight) (and-r (leb (t .dy) 16) (ltb 0 (t .weight)) rest),
     )
 
 weight-at : (k : List Target) (m : ℕ) → m < length k → getD k m none .weight ≤ total k

@@ -1,14 +1,11 @@
--- Choices that follow one rule from the biased bytes, over the same sources, are the same; and a picture that grows by a pixel still follows the
--- rule. Assumes nothing.
-use mathlib.Core.Path.{_≡_, sym, _∙_, subst}
+-- Choices that follow one rule from the biased bytes, over the same sources, are the same; and where they do in one picture, they do in another
+-- that is the same so far. Assumes nothing.
+use mathlib.Core.Path.{_≡_, sym, _∙_}
 use mathlib.Core.Bool.{true}
 use mathlib.Core.List.{List}
-use Prim.Native.Nat.{ℕ, zero, suc, _+_, _<_}
-use native.Mathlib.Nat.{not-suc-le-zero, le-of-suc-le-suc}
-use native.Mathlib.Numerals.{add-one}
+use Prim.Native.Nat.{ℕ, zero, suc, _<_}
+use native.Mathlib.Nat.{not-suc-le-zero}
 use native.Mathlib.Omega.{arith}
-use native.Mathlib.Decide.{ℕ-discrete}
-use lib.Arith.{lt-of-le-ne}
 use lib.Dec.{lit<}
 use Rattle.patterns.specs.Kernel.{Target}
 use Rattle.diffusion.specs.Biased.{biasedOf}
@@ -47,20 +44,9 @@ module _ {X : Type 0} (rule : ℕ → ℕ → ℕ → ℕ → X) (k : List Targe
         let before = unique n (λ j m. F j (omega arith)) (λ j m. F′ j (omega arith)) in
         F i l d ∙ rule-same p p′ i (λ a A. S a i A) (alike i (λ j m. before j (omega arith))) ∙ sym (F′ i l (sym (D i) ∙ d))
 
-  -- ---- a picture that grows by a pixel
+  -- ---- another picture that is the same before the pixel n
   pub follows-kept : (p p′ : Picture) (x x′ : ℕ → X) (n : ℕ) → ((a : ℕ) → a < 3 → Alike (channel p a) (channel p′ a) n)
       → ((i : ℕ) → i < n → p .dithered i ≡ true → x i ≡ x′ i) → Follows rule k p x n → Follows rule k p′ x′ n
   follows-kept p p′ x x′ n s C F i l d =
       let d′ : p .dithered i ≡ true = s 0 (lit< tt) .dithered i l ∙ d in
       sym (C i l d′) ∙ F i l d′ ∙ rule-same p p′ i (λ a A. s a A .source i l) (λ a A. fewer (channel p a) (channel p′ a) n i (omega arith) (s a A))
-
-  pub follows-more : (p : Picture) (x : ℕ → X) (n : ℕ) → Follows rule k p x n
-      → (p .dithered n ≡ true → x n ≡ rule n (biased k (channel p 0) n) (biased k (channel p 1) n) (biased k (channel p 2) n)) → Follows rule k p x (n + 1)
-  follows-more p x n F here i l d = go (ℕ-discrete i n)
-    where
-      before : i < suc n
-      before = subst (λ (m : ℕ). i < m) (add-one n) l
-
-      go : Dec (i ≡ n) → x i ≡ rule i (biased k (channel p 0) i) (biased k (channel p 1) i) (biased k (channel p 2) i)
-      go (yes e) = subst (λ (j : ℕ). p .dithered j ≡ true → x j ≡ rule j (biased k (channel p 0) j) (biased k (channel p 1) j) (biased k (channel p 2) j)) (sym e) here d
-      go (no f) = F i (lt-of-le-ne (le-of-suc-le-suc before) f) d

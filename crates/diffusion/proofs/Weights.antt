@@ -8,8 +8,8 @@ use native.Mathlib.Nat.{le-refl, lt-irrefl}
 use native.Mathlib.Omega.{arith}
 use lib.Dec.{T, eqb→eq}
 use lib.ListN.{take}
+use lib.Ieee.Fits.{and-l, and-r}
 use Rattle.patterns.specs.Kernel.{Target, Place, pixel, outside, landing, total, comesLater, later}
-use Rattle.patterns.proofs.Computed.{both-left, both-right}
 use Rattle.diffusion.specs.Diffusion.{isAt, weightTo}
 use Rattle.diffusion.proofs.Sum.{sumℕ, sumℕ-add, sumℕ-zero}
 use Rattle.diffusion.proofs.Landings.{landing-later, landing-once}
@@ -40,8 +40,8 @@ module _ (w h i : ℕ) where
   unfolding weightTo later
   none-back [] j s l = refl
   none-back (t ∷ k) j s l =
-      let here = part-not t j (λ e. back (landing-later w h j t i e (both-left (comesLater t) (later k) s))) in
-      omega (arith, here, none-back k j (both-right (comesLater t) (later k) s) l)
+      let here = part-not t j (λ e. back (landing-later w h j t i e (and-l (comesLater t) (later k) s))) in
+      omega (arith, here, none-back k j (and-r (comesLater t) (later k) s) l)
     where
       back : j < i → ⊥
       back b = omega arith

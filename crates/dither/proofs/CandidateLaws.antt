@@ -1,6 +1,6 @@
 -- The collected candidates: what is known where they have places (`collected`) and where they are too many (`uncollected`); the fronts of the
--- rooms are their bytes and their Oklab (`roomed`); each component is from -2 to 2 (`candidates-ranged`); and where a pixel is not skipped there is
--- a candidate (`some-candidate`). Assumes nothing.
+-- rooms are their bytes and their Oklab (`roomed`); each component is from -2 to 2 (`candidates-ranged`); and a pixel that is not
+-- skipped is opaque (`drawn-opaque`), so that there is a candidate (`some-candidate`). Assumes nothing.
 use mathlib.Core.Path.{_≡_, refl, sym, subst, _∙_, ap}
 use mathlib.Core.Bool.{Bool, true, false, cond, not}
 use mathlib.Core.List.{List, [], _∷_}
@@ -104,7 +104,7 @@ some-in : {A : Type 0} (x : A) (xs : List A) → In x xs → 0 < length xs
 some-in x [] i = absurd i
 some-in x (y ∷ ys) i = omega arith
 
-drawn-opaque : (zero : ColorZero) (reduction pixels : List ℕ) (i : ℕ) → isSkipped zero (pixelAt reduction pixels i) ≡ false → isOpaque pixels i ≡ true
+pub drawn-opaque : (zero : ColorZero) (reduction pixels : List ℕ) (i : ℕ) → isSkipped zero (pixelAt reduction pixels i) ≡ false → isOpaque pixels i ≡ true
 unfolding isSkipped
 drawn-opaque zero reduction pixels i s = opaque-is reduction pixels i ∙ ap not (or-split (isTransparent (pixelAt reduction pixels i .0)) _ s .0)
 

@@ -1,7 +1,7 @@
 -- A dithered choice is one of the candidates, for every kind: the nearest is, and both ends of a bracket are. Assumes nothing.
 use mathlib.Core.Path.{_≡_, refl, sym, subst}
 use mathlib.Core.Bool.{Bool, true, false, cond, not, _&&_}
-use Prim.Native.Nat.{ℕ, _+_, _*_, _/_, _%_, _<_}
+use Prim.Native.Nat.{ℕ, _+_, _/_, _%_, _<_}
 use lib.Dec.{T}
 use lib.Ieee.{lt}
 use Rattle.color.specs.declared.NormalizedColor.{NormalizedColor}
@@ -9,19 +9,15 @@ use Rattle.color.specs.declared.ReducedColor.{ReducedColor}
 use Rattle.color.specs.Color.{sameReduced}
 use Rattle.color.specs.Oklab.{allInRange}
 use Rattle.conversion.specs.Oklab.{toOklab}
-use Rattle.picture.specs.Pixels.{pixelAt}
 use Rattle.patterns.specs.Kinds.{isOrdered, isDiffusion}
 use Rattle.patterns.specs.Thresholds.{thresholdAt}
-use Rattle.shortlist.specs.Candidates.{Candidates, scaled}
+use Rattle.shortlist.specs.Candidates.{Candidates}
 use Rattle.shortlist.specs.Nearest.{nearestOf}
 use Rattle.shortlist.proofs.NearestLaws.{nearest-inside}
 use Rattle.lookup.specs.declared.BracketAt.{BracketAt}
 use Rattle.lookup.specs.Bracket.{bracketAtOf, colored, pickAt}
 use Rattle.lookup.proofs.BracketLaws.{bracket-inside}
-use Rattle.drawing.specs.declared.ColorZero.{ColorZero}
-use Rattle.drawing.specs.declared.Ditherer.{Ditherer}
 use Rattle.drawing.specs.Drawing.{Among, Drawing, nearestColor, orderedColor, colorAt, biasedAt, ditheredAt, drawn}
-use Rattle.drawing.specs.Lent.{isSkipped, Lent, drawingOf, Ready}
 use Rattle.drawing.proofs.DrawnLaws.{drawn-dithered}
 
 module _ (cs : Candidates) (some : 0 < cs .count) where
@@ -64,8 +60,3 @@ drawn-candidate d some range i s = subst (Among (d .candidates)) (sym (drawn-dit
     go : (t : Bool) → Among (d .candidates) (cond t (nearestColor (d .candidates) (biasedAt d (drawn d) i)) own)
     go true = nearest-among (d .candidates) some (biasedAt d (drawn d) i)
     go false = color-among (d .candidates) some range (d .kind) (d .bracketWidth) (d .originX + i % d .width) (d .originY + i / d .width) (d .source i)
-
--- the same of the pictures that the code draws
-pub drawn-among : {t : Ditherer} {zero : ColorZero} {l : Lent} → Ready t zero l → (i : ℕ) → i < t .width * t .height → isSkipped zero (pixelAt (l .reduction) (l .pixels) i) ≡ false
-    → Among (scaled (l .colors) (l .scale) (l .oklab) (l .count)) (drawn (drawingOf t zero l) i)
-drawn-among {t} {zero} {l} ready i inside s = drawn-candidate (drawingOf t zero l) (ready .some i inside s) (ready .ranged .range) i s

@@ -4,7 +4,7 @@ use Prim.Native.Nat.{ℕ, _^_, _≤_, _<_}
 use native.Mathlib.Nat.{le-trans, le-of-eq, mul-one}
 use native.Mathlib.Omega.{arith}
 use mathlib.Core.Bool.{false}
-use lib.IntN.{ℤ, pos, natAbs, _-ℤ_}
+use lib.IntN.{pos, natAbs}
 use lib.Dec.{lit≤, lit<}
 use lib.Ieee.{Float, binary32, sub, ofInt}
 use Rattle.floats.specs.Over.{wholef}

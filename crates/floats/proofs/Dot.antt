@@ -4,7 +4,7 @@ use Prim.Native.Nat.{ℕ, _+_, _*_, _^_, _≤_, _<_}
 use native.Mathlib.Nat.{lt-of-le-of-lt}
 use native.Mathlib.Omega.{arith}
 use lib.IntN.{ℤ, pos, negsuc, natAbs, _+ℤ_, _*ℤ_}
-use lib.Dec.{lit≤, lit<}
+use lib.Dec.{lit<}
 use lib.Ieee.{Float, binary32, add, mul}
 use Rattle.floats.specs.Whole.{Whole}
 use Rattle.floats.specs.Bounds.{Within, Upto}
@@ -60,7 +60,7 @@ square-dot A x y z h X Y Z =
     two : (s : ℕ) → s + s + s ≤ 2 ^ 24 → s + s ≤ 2 ^ 24
     two s k = omega arith
 
-square : (z : ℤ) → z *ℤ z ≡ pos (natAbs z * natAbs z)
+pub square : (z : ℤ) → z *ℤ z ≡ pos (natAbs z * natAbs z)
 square (pos n) = refl
 square (negsuc n) = refl
 

@@ -5,7 +5,6 @@ pub mod Over
 pub mod Within
 pub mod Unique
 pub mod Order
-pub mod Total
 pub mod Range
 pub mod Whole
 pub mod Dot

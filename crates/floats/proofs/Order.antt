@@ -1,17 +1,16 @@
 -- The order of f32 values that are finite and not negative, -0 left out: `lt` is a strict total order on them, and two of which neither is below the other are equal as data.
--- Assumes nothing.
-use mathlib.Core.Path.{_≡_, refl, sym, ap, _∙_, subst}
+-- Of any floats, NaN, infinities and -0 among them, `lt` is irreflexive and transitive. Assumes nothing.
+use mathlib.Core.Path.{_≡_, refl, sym, subst}
 use mathlib.Core.Logic.{_⊎_, inl, inr}
-use Prim.Native.Nat.{ℕ, zero, suc, _*_, _≤_, _<_}
-use native.Mathlib.Nat.{le-antisymm, le-of-lt, lt-irrefl, not-le-of-lt, lt-of-mul-lt-mul-right, lt-of-le-of-lt, lt-of-lt-of-le, le-of-eq, mul-lt-mul-of-pos-right, mul-le-mul-right, mul-right-comm, lt-of-not-le}
+use Prim.Native.Nat.{ℕ, _+_, _*_, _≤_, _<_}
+use native.Mathlib.Nat.{le-antisymm, le-of-lt, le-trans, le-of-eq, lt-irrefl, lt-of-le-of-lt, lt-of-lt-of-le, lt-of-mul-lt-mul-right, mul-lt-mul-of-pos-right, mul-le-mul-right, mul-right-comm, mul-pos}
 use native.Mathlib.Omega.{arith}
-use mathlib.Core.Bool.{Bool, true, false, not, _&&_}
-use lib.IntN.{ℤ}
-use lib.Dec.{T, ltb, ltb→lt, lt→ltb, nltb→le, not-T, T-not}
+use mathlib.Core.Bool.{Bool, true, false, not}
+use lib.Dec.{T, ltb, ltb→lt, lt→ltb, nltb→le}
 use lib.Arith.{le→nltb}
 use lib.Ieee.{Float, nan, inf, fin, Format, up, down, lt, fits, isNan}
 use lib.Ieee.Fits.{down-pos}
-use lib.Ieee.Positive.{num, den, den-pos, through}
+use lib.Ieee.Positive.{num, den, den-pos, first-pos, through}
 use Rattle.floats.specs.Bounds.{Within, Upto}
 use Rattle.floats.proofs.Unique.{same-data}
 
@@ -27,12 +26,6 @@ upto-plain A nan h = h
 upto-plain A (inf s) h = h
 upto-plain A (fin true m e) h = h
 upto-plain A (fin false m e) h = tt
-
-pub plain-not-nan : (x : Float) → Plain x → T (not (isNan x))
-unfolding isNan
-plain-not-nan nan h = absurd h
-plain-not-nan (inf s) h = absurd h
-plain-not-nan (fin s m e) h = tt
 
 pub within-not-nan : (A : ℕ) (x : Float) → Within A x → T (not (isNan x))
 unfolding isNan
@@ -53,9 +46,6 @@ lt-is (fin false m e) (fin false n d) p q = refl
 pub lt→cross : (x y : Float) → Plain x → Plain y → T (lt x y) → num x * den y < num y * den x
 lt→cross x y p q t = ltb→lt (num x * den y) (num y * den x) (subst T (lt-is x y p q) t)
 
-pub cross→lt : (x y : Float) → Plain x → Plain y → num x * den y < num y * den x → T (lt x y)
-cross→lt x y p q h = subst T (sym (lt-is x y p q)) (lt→ltb (num x * den y) (num y * den x) h)
-
 pub nlt→cross : (x y : Float) → Plain x → Plain y → T (not (lt x y)) → num y * den x ≤ num x * den y
 nlt→cross x y p q t = nltb→le (num x * den y) (num y * den x) (subst (λ (b : Bool). T (not b)) (lt-is x y p q) t)
 
@@ -71,7 +61,69 @@ lt-irreflexive (inf false) t = t
 lt-irreflexive (fin true m e) t = lt-irrefl (m * up e * down e) (ltb→lt (m * up e * down e) (m * up e * down e) t)
 lt-irreflexive (fin false m e) t = lt-irrefl (m * up e * down e) (ltb→lt (m * up e * down e) (m * up e * down e) t)
 
--- ---- the laws of a strict total order
+-- x / p < y / q < z / r
+strict : (x y z p q r : ℕ) → 0 < r → 0 < p → x * q < y * p → y * r < z * q → x * r < z * p
+strict x y z p q r R P h k =
+    lt-of-mul-lt-mul-right q
+    (lt-of-le-of-lt (le-of-eq (mul-right-comm x r q))
+    (lt-of-lt-of-le (mul-lt-mul-of-pos-right h R)
+    (le-trans (le-of-eq (mul-right-comm y p r)) (le-trans (mul-le-mul-right p (le-of-lt k)) (le-of-eq (mul-right-comm z q p))))))
+
+right-pos : (a b : ℕ) → 0 < b → 0 < a + b
+right-pos a b h = omega arith
+
+left-pos : (a b : ℕ) → 0 < a → 0 < a + b
+left-pos a b h = omega arith
+
+above : (a b : ℕ) → a < b → 0 < b
+above a b h = omega arith
+
+-- y / q < z / r, so z is above 0, whatever it is multiplied by
+grows : (y z q r p : ℕ) → 0 < p → y * r < z * q → 0 < z * p
+grows y z q r p P h = mul-pos (first-pos z q (above (y * r) (z * q) h)) P
+
+pub lt-transitive : (x y z : Float) → T (lt x y) → T (lt y z) → T (lt x z)
+unfolding lt
+lt-transitive nan y z h k = absurd h
+lt-transitive (inf s) nan z h k = absurd h
+lt-transitive (inf true) (inf true) z h k = absurd h
+lt-transitive (inf true) (inf false) nan h k = absurd k
+lt-transitive (inf true) (inf false) (inf true) h k = absurd k
+lt-transitive (inf true) (inf false) (inf false) h k = absurd k
+lt-transitive (inf true) (inf false) (fin u o g) h k = absurd k
+lt-transitive (inf true) (fin t n d) nan h k = absurd k
+lt-transitive (inf true) (fin t n d) (inf true) h k = absurd k
+lt-transitive (inf true) (fin t n d) (inf false) h k = tt
+lt-transitive (inf true) (fin t n d) (fin u o g) h k = tt
+lt-transitive (inf false) (inf t) z h k = absurd h
+lt-transitive (inf false) (fin t n d) z h k = absurd h
+lt-transitive (fin s m e) nan z h k = absurd h
+lt-transitive (fin s m e) (inf true) z h k = absurd h
+lt-transitive (fin s m e) (inf false) nan h k = absurd k
+lt-transitive (fin s m e) (inf false) (inf u) h k = absurd k
+lt-transitive (fin s m e) (inf false) (fin u o g) h k = absurd k
+lt-transitive (fin s m e) (fin t n d) nan h k = absurd k
+lt-transitive (fin s m e) (fin t n d) (inf true) h k = absurd k
+lt-transitive (fin s m e) (fin t n d) (inf false) h k = tt
+lt-transitive (fin false m e) (fin true n d) (fin u o g) h k = absurd h
+lt-transitive (fin false m e) (fin false n d) (fin true o g) h k = absurd k
+lt-transitive (fin false m e) (fin false n d) (fin false o g) h k =
+    lt→ltb (m * up e * down g) (o * up g * down e)
+    (strict (m * up e) (n * up d) (o * up g) (down e) (down d) (down g) (down-pos g) (down-pos e)
+    (ltb→lt (m * up e * down d) (n * up d * down e) h) (ltb→lt (n * up d * down g) (o * up g * down d) k))
+lt-transitive (fin true m e) (fin false n d) (fin true o g) h k = absurd k
+lt-transitive (fin true m e) (fin false n d) (fin false o g) h k =
+    lt→ltb 0 (m * up e * down g + o * up g * down e)
+    (right-pos (m * up e * down g) (o * up g * down e) (grows (n * up d) (o * up g) (down d) (down g) (down e) (down-pos e) (ltb→lt (n * up d * down g) (o * up g * down d) k)))
+lt-transitive (fin true m e) (fin true n d) (fin false o g) h k =
+    lt→ltb 0 (m * up e * down g + o * up g * down e)
+    (left-pos (m * up e * down g) (o * up g * down e) (grows (n * up d) (m * up e) (down d) (down e) (down g) (down-pos g) (ltb→lt (n * up d * down e) (m * up e * down d) h)))
+lt-transitive (fin true m e) (fin true n d) (fin true o g) h k =
+    lt→ltb (o * up g * down e) (m * up e * down g)
+    (strict (o * up g) (n * up d) (m * up e) (down g) (down d) (down e) (down-pos e) (down-pos g)
+    (ltb→lt (o * up g * down d) (n * up d * down g) k) (ltb→lt (n * up d * down e) (m * up e * down d) h))
+
+-- ---- where they are finite, not negative and not -0: the laws of a strict total order
 pub lt-asymmetric : (x y : Float) → Plain x → Plain y → T (lt x y) → T (not (lt y x))
 lt-asymmetric x y p q t = cross→nlt y x q p (le-of-lt (lt→cross x y p q t))
 
@@ -91,9 +143,6 @@ lt-nlt-trans x y z p q r h k = not-both (lt x y) (lt x z) (λ n. nlt-trans y z x
 -- x ≤ y < z
 pub nlt-lt-trans : (x y z : Float) → Plain x → Plain y → Plain z → T (not (lt y x)) → T (lt y z) → T (lt x z)
 nlt-lt-trans x y z p q r h k = not-both (lt y z) (lt x z) (λ n. nlt-trans z x y r p q n h) k
-
-pub lt-transitive : (x y z : Float) → Plain x → Plain y → Plain z → T (lt x y) → T (lt y z) → T (lt x z)
-lt-transitive x y z p q r h k = lt-nlt-trans x y z p q r h (lt-asymmetric y z q r k)
 
 -- ---- neither below the other
 pub equal-of-nlt : (f : Format) (x y : Float) → Plain x → Plain y → T (fits f x) → T (fits f y) → T (not (lt x y)) → T (not (lt y x)) → x ≡ y

@@ -2,18 +2,17 @@
 -- None of them is -0. Assumes nothing.
 use mathlib.Core.Path.{_≡_, refl, sym, ap, _∙_, subst}
 use Prim.Native.Nat.{ℕ, zero, suc, _+_, _-_, _*_, _^_, _≤_, _<_}
-use native.Mathlib.Nat.{mul-assoc, mul-one, mul-comm, mul-pos, lt-of-lt-of-le, add-comm, add-zero, lt-irrefl, not-le-of-lt}
+use native.Mathlib.Nat.{mul-assoc, mul-pos, lt-of-lt-of-le, add-zero, lt-irrefl}
 use native.Mathlib.Omega.{arith}
-use mathlib.Core.Bool.{Bool, true, false, not, _&&_, Bool·beq, cond}
+use mathlib.Core.Bool.{Bool, true, false, not, _&&_, cond}
 use lib.IntN.{ℤ, pos, negsuc, negℤ, natAbs, subℕ, _+ℤ_, _-ℤ_, _*ℤ_}
-use lib.Dec.{T, ltb, ltb→lt, nltb→le, lt→ltb, lit<, lit≤}
-use lib.Pow.{pow-add, pow-pos, pow-mono, pow-lt, shl-lt}
-use lib.Ieee.{Float, nan, inf, fin, Format, binary32, unlike, round, sum, neg, add, sub, mul, div, ofInt}
+use lib.Dec.{T, ltb, ltb→lt, nltb→le, lt→ltb, lit≤}
+use lib.Pow.{pow-add, pow-pos, pow-mono, shl-lt}
+use lib.Ieee.{Float, binary32, unlike, round, sum, add, sub, mul, ofInt}
 use lib.Ieee.Exact.{HasValue, round-exact}
 use lib.Ieee.Digits.{back}
-use lib.Ieee.Scale.{round-same}
-use Rattle.floats.specs.Over.{over, sixteenths, wholef, millionths}
-use Rattle.floats.proofs.At.{add-at, sub-at, mul-at, div-at, neg-value}
+use Rattle.floats.specs.Over.{over, wholef}
+use Rattle.floats.proofs.At.{add-at, sub-at, mul-at}
 
 abbrev pub isNeg : ℤ → Bool
 isNeg (pos n) = false
@@ -43,19 +42,9 @@ pub over-value : (k : ℕ) (z : ℤ) → k ≤ 149 → natAbs z < 2 ^ 24 → Has
 over-value k z K N = subst (λ (x : Float). HasValue x (isNeg z) (natAbs z) (2 ^ k)) (sym (over-is (2 ^ k) z)) (round-value (isNeg z) k (natAbs z) K N)
 
 -- ---- sums of whole numbers over c
-split : (b : Bool) (x y : Float) (P : Float → Type 0) → (T b → P x) → (T (not b) → P y) → P (cond b x y)
-split true x y P f g = f tt
-split false x y P f g = g tt
-
 push : (c : ℕ) (b : Bool) (x y : ℤ) → over c (cond b x y) ≡ cond b (over c x) (over c y)
 push c true x y = refl
 push c false x y = refl
-
-up-one : (x y : ℕ) → x < suc y → suc (suc y - suc x) ≡ suc y - x
-up-one x y h = omega arith
-
-nothing : (y x : ℕ) → x ≤ y → y ≤ x → y - x ≡ 0
-nothing y x h k = omega arith
 
 -- x - y
 pub sum-minus : (c x y : ℕ) → sum binary32 false x true y c ≡ over c (subℕ x y)

@@ -1,26 +1,23 @@
 -- The tests -A ≤ x and x ≤ A, as code makes them, and the bound `Within A`: each says the same. A NaN passes neither test. Assumes nothing.
-use mathlib.Core.Path.{_≡_, refl, sym, ap, _∙_, subst}
-use mathlib.Core.Logic.{_⊎_, inl, inr}
-use Prim.Native.Nat.{ℕ, zero, suc, _+_, _*_, _^_, _≤_, _<_}
-use native.Mathlib.Nat.{le-trans, le-of-eq, mul-one, mul-right-comm, mul-le-mul-right, le-of-mul-le-mul-right, eq-or-lt-of-le}
+use mathlib.Core.Path.{_≡_, sym, ap, _∙_}
+use mathlib.Core.Logic.{inl, inr}
+use Prim.Native.Nat.{ℕ, _+_, _*_, _≤_, _<_}
+use native.Mathlib.Nat.{le-trans, le-of-eq, mul-one, mul-right-comm, mul-le-mul-right, eq-or-lt-of-le}
 use native.Mathlib.Omega.{arith}
 use mathlib.Core.Bool.{Bool, true, false, not, _&&_, _||_, true≢false}
-use lib.IntN.{ℤ}
 use lib.Dec.{T, ltb, eqb, ltb→lt, lt→ltb, nltb→le, eqb→eq}
-use lib.Ieee.{Float, nan, inf, fin, up, down, neg, le, lt, eq}
+use mir.Facts.{or-yes}
+use lib.Ieee.{Float, nan, inf, fin, up, down, neg, le}
 use lib.Ieee.Fits.{down-pos, and-l, and-i, eq→eqb}
 use lib.Ieee.Exact.{HasValue}
 use Rattle.floats.specs.Bounds.{Within}
-use Rattle.floats.proofs.Within.{or-split, le-of-test}
-
-cut : (x e y d A : ℕ) → 0 < d → y * 1 ≡ A * d → x * d ≤ y * e → x ≤ A * e
-cut x e y d A D p h = le-of-mul-le-mul-right (le-trans h (le-of-eq (ap (λ (z : ℕ). z * e) (sym (mul-one y) ∙ p) ∙ mul-right-comm A d e))) D
+use Rattle.floats.proofs.Within.{le-of-test, cut}
 
 paste : (x e y d A : ℕ) → y * 1 ≡ A * d → x ≤ A * e → x * d ≤ y * e
 paste x e y d A p h = le-trans (mul-le-mul-right d h) (le-of-eq (mul-right-comm A e d ∙ ap (λ (z : ℕ). z * e) (sym p ∙ mul-one y)))
 
-flip : (a b : ℕ) (w : Bool) → T (ltb b a || (eqb a b && w)) → b ≤ a
-flip a b w t = elim (or-split (ltb b a) (eqb a b && w) t) [ inl u ↦ lower (ltb→lt b a u) | inr u ↦ same (eqb→eq a b (and-l (eqb a b) w u)) ]
+pub flip : (a b : ℕ) (w : Bool) → T (ltb b a || (eqb a b && w)) → b ≤ a
+flip a b w t = elim (or-yes (ltb b a) (eqb a b && w) t) [ inl u ↦ lower (ltb→lt b a u) | inr u ↦ same (eqb→eq a b (and-l (eqb a b) w u)) ]
   where
     lower : b < a → b ≤ a
     lower h = omega arith
@@ -41,11 +38,11 @@ within-of-le A (fin true m e) (fin false n d) v a b = cut (m * up e) (down e) (n
 within-of-le A (fin false m e) (fin false n d) v a b = cut (m * up e) (down e) (n * up d) (down d) A (down-pos d) (v .1) (le-of-test (m * up e * down d) (n * up d * down e) true b)
 
 -- ---- and back
-or-l : (a b : Bool) → T a → T (a || b)
+pub or-l : (a b : Bool) → T a → T (a || b)
 or-l true b t = tt
 or-l false b t = absurd t
 
-or-r : (a b : Bool) → T b → T (a || b)
+pub or-r : (a b : Bool) → T b → T (a || b)
 or-r true b t = tt
 or-r false b t = t
 

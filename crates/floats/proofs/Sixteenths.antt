@@ -1,19 +1,18 @@
 -- The cells of error diffusion: sixteenths. Each is `sixteenths n`, never -0; a send adds weight times residual; source + cell, times 16, is a whole number that casts to an i32.
 -- Assumes nothing.
 use mathlib.Core.Path.{_≡_, refl, sym, ap, _∙_, subst}
-use Prim.Native.Nat.{ℕ, zero, suc, _+_, _-_, _*_, _^_, _≤_, _<_}
-use native.Mathlib.Nat.{mul-assoc, mul-one, mul-comm, mul-pos, lt-of-lt-of-le, lt-of-le-of-lt, mul-le-mul, le-of-lt, zero-mul, lt-irrefl}
+use Prim.Native.Nat.{ℕ, zero, suc, _-_, _*_, _^_, _≤_, _<_}
+use native.Mathlib.Nat.{mul-assoc, mul-comm, mul-pos, lt-of-lt-of-le, lt-of-le-of-lt, mul-le-mul, le-of-lt, lt-irrefl}
 use native.Mathlib.Omega.{arith}
 use mathlib.Core.Bool.{Bool, true, false, cond}
-use lib.IntN.{ℤ, pos, negsuc, negℤ, natAbs, _+ℤ_, _-ℤ_, _*ℤ_}
-use lib.Dec.{T, leb, ltb, le→leb, lt→ltb, lit<, lit≤}
-use lib.Pow.{pow-mono}
-use lib.Ieee.{Float, fin, binary32, round, add, sub, mul, ofInt, ofBits, inSigned, toSigned, inFloat}
+use lib.IntN.{ℤ, pos, negsuc, negℤ, natAbs, _+ℤ_, _*ℤ_}
+use lib.Dec.{T, ltb, le→leb, lit<, lit≤}
+use lib.Ieee.{Float, binary32, round, add, mul, ofInt, ofBits, inSigned, toSigned, inFloat}
 use lib.Ieee.Back.{positive-back, negative-back}
 use lib.Ieee.Scale.{round-same}
 use Rattle.floats.specs.Over.{over, sixteenths, wholef}
 use Rattle.floats.specs.Cells.{Cell}
-use Rattle.floats.proofs.Over.{isNeg, over-is, over-value, add-over, mul-over, ofInt-over, whole-sub}
+use Rattle.floats.proofs.Over.{isNeg, over-is, add-over, mul-over, ofInt-over}
 
 -- ---- one fraction, with another denominator
 scaled : (z : ℤ) (d : ℕ) → 0 < d → (isNeg (z *ℤ pos d) ≡ isNeg z) × (natAbs (z *ℤ pos d) ≡ natAbs z * d)
@@ -131,13 +130,6 @@ send x y v n r w h p R q W L =
     ∙ ap (λ (z : Float). add binary32 (sixteenths n) z) (sixteenths-weight r w (residual-small r R) (weight-small w L) W)
     ∙ sixteenths-add n (r *ℤ pos w) (cell-small n (h .small)) (lt-of-le-of-lt (subst (λ (k : ℕ). k ≤ 255 * 16) (sym (scaled r w W .1)) (mul-le-mul R L)) (lit< tt))
 
--- the difference of two bytes
-byte-whole : (b : ℕ) → b < 256 → b < 2 ^ 24
-byte-whole b h = omega arith
-
-pub byte-residual : (a b : ℕ) → a < 256 → b < 256 → sub binary32 (ofInt binary32 (pos a)) (ofInt binary32 (pos b)) ≡ wholef (pos a -ℤ pos b)
-byte-residual a b A B = (λ i. sub binary32 (ofInt-over (pos a) i) (ofInt-over (pos b) i)) ∙ whole-sub (pos a) (pos b) (byte-whole a A) (byte-whole b B)
-
 pub cell-range : (b : ℕ) (n : ℤ) → b < 256 → natAbs n ≤ 4080 → natAbs (pos (b * 16) +ℤ n) < 1000000
 cell-range b (pos n) B N = omega arith
 cell-range b (negsuc n) B N = go (ltb (b * 16) (suc n))
@@ -145,10 +137,3 @@ cell-range b (negsuc n) B N = go (ltb (b * 16) (suc n))
     go : (t : Bool) → natAbs (cond t (negsuc (suc n - suc (b * 16))) (pos (b * 16 - suc n))) < 1000000
     go true = omega arith
     go false = omega arith
-
--- ---- from a cell back to its number
-pub sixteenths-back : (n : ℤ) → natAbs n < 2 ^ 24 → toSigned 31 (mul binary32 (sixteenths n) (wholef (pos 16))) ≡ n
-sixteenths-back n N = ap (λ (x : Float). toSigned 31 x) (sixteenths-by-16 n N) ∙ whole-cast n N .1
-
-pub sixteenths-injective : (n m : ℤ) → natAbs n < 2 ^ 24 → natAbs m < 2 ^ 24 → sixteenths n ≡ sixteenths m → n ≡ m
-sixteenths-injective n m N M e = sym (sixteenths-back n N) ∙ ap (λ (x : Float). toSigned 31 (mul binary32 x (wholef (pos 16)))) e ∙ sixteenths-back m M

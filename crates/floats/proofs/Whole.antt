@@ -3,19 +3,19 @@
 use mathlib.Core.Path.{_≡_, refl, sym, ap, _∙_, subst}
 use mathlib.Core.Logic.{_⊎_, inl, inr}
 use Prim.Native.Nat.{ℕ, zero, suc, _+_, _-_, _*_, _^_, _≤_, _<_}
-use native.Mathlib.Nat.{le-refl, le-trans, le-of-eq, lt-of-le-of-lt, lt-of-lt-of-le, mul-one, mul-zero, zero-mul, mul-comm, mul-le-mul-left, mul-le-mul, mul-pos, le-of-lt, lt-irrefl, add-zero, zero-add}
+use native.Mathlib.Nat.{le-trans, le-of-eq, lt-of-le-of-lt, mul-one, mul-zero, zero-mul, mul-le-mul-left, le-of-lt, add-zero, zero-add}
 use native.Mathlib.Omega.{arith}
-use mathlib.Core.Bool.{Bool, true, false, not, cond, false≢true}
-use lib.IntN.{ℤ, pos, negsuc, negℤ, natAbs, subℕ, _+ℤ_, _-ℤ_, _*ℤ_, negℤ-+ℤ, +ℤ-idr, +ℤ-idl}
-use lib.Dec.{T, ltb, ltb→lt, nltb→le, lit≤, lit<}
-use lib.Ieee.{Float, nan, inf, fin, binary32, unlike, round, sum, add, sub, mul, div, ofInt, ofBits}
+use mathlib.Core.Bool.{Bool, true, false, cond, false≢true}
+use lib.IntN.{ℤ, pos, negsuc, negℤ, natAbs, subℕ, _+ℤ_, _*ℤ_, negℤ-+ℤ}
+use lib.Dec.{T, ltb, ltb→lt, lit≤, lit<}
+use lib.Ieee.{Float, nan, inf, fin, binary32, unlike, round, sum, add, mul, div, ofInt, ofBits}
 use lib.Ieee.Exact.{HasValue}
 use lib.Ieee.Scale.{round-same}
 use Rattle.floats.specs.Over.{over, wholef, millionths}
 use Rattle.floats.specs.Whole.{val, Whole}
 use Rattle.floats.specs.Bounds.{Within, Upto}
 use Rattle.floats.proofs.At.{add-at, mul-at, div-at}
-use Rattle.floats.proofs.Over.{isNeg, over-is, over-value, round-value, sum-minus, minus-sum, ofInt-over, sub-over}
+use Rattle.floats.proofs.Over.{isNeg, over-is, over-value, round-value, sum-minus, minus-sum, ofInt-over}
 use Rattle.floats.proofs.Within.{round-within, round-signed, Signed}
 
 -- ---- signed sizes

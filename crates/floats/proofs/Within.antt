@@ -1,15 +1,15 @@
 -- Bounded operands give a bounded result, so no sum, difference or product of them is an infinity or a NaN. Bounds are whole numbers up to 2 ^ 24, which f32 holds.
 -- Assumes nothing.
 use mathlib.Core.Path.{_≡_, refl, sym, ap, _∙_, subst}
-use mathlib.Core.Logic.{_⊎_, inl, inr}
+use mathlib.Core.Logic.{inl, inr}
 use Prim.Native.Nat.{ℕ, zero, suc, _+_, _-_, _*_, _/_, _%_, _^_, _≤_, _<_, compare}
-use native.Mathlib.Nat.{le-refl, le-trans, le-of-eq, le-of-lt, lt-of-lt-of-le, mul-assoc, mul-comm, mul-one, mul-right-comm, mul-left-comm, mul-mul-mul-comm, mul-le-mul, mul-le-mul-right, mul-le-mul-left, le-of-mul-le-mul-right, add-mul, mul-pos, zero-lt-suc}
+use native.Mathlib.Nat.{le-trans, le-of-eq, le-of-lt, mul-assoc, mul-comm, mul-one, mul-right-comm, mul-mul-mul-comm, mul-le-mul, mul-le-mul-right, le-of-mul-le-mul-right, add-mul, mul-pos}
 use native.Mathlib.Omega.{arith}
-use mathlib.Core.Bool.{Bool, true, false, not, _&&_, _||_, Bool·beq, cond, true≢false, false≢true}
-use lib.IntN.{ℤ}
-use lib.Dec.{T, ltb, eqb, ltb→lt, lt→ltb, eqb→eq, lit≤, lit<}
-use lib.Ieee.{Float, nan, inf, fin, Format, binary32, prec, low, size, nearest, unlike, up, down, odd, units, round, neg, sum, add, sub, mul, div, lt, eq, le}
-use lib.Ieee.Fits.{up-pos, down-pos, round-is, and-l}
+use mathlib.Core.Bool.{Bool, true, false, _&&_, _||_, Bool·beq, cond, true≢false}
+use lib.Dec.{T, ltb, eqb, ltb→lt, eqb→eq, lit<}
+use mir.Facts.{or-yes}
+use lib.Ieee.{Float, nan, inf, fin, Format, binary32, prec, low, size, nearest, unlike, up, down, odd, units, round, neg, sum, add, sub, mul, le}
+use lib.Ieee.Fits.{down-pos, round-is, and-l}
 use lib.Ieee.Exact.{HasValue}
 use lib.Ieee.Order.{round-mono}
 use lib.Ieee.Back.{round-whole}
@@ -66,38 +66,17 @@ upto-within A (inf s) h = h
 upto-within A (fin true m e) h = absurd h
 upto-within A (fin false m e) h = h
 
-pub within-upto : (A : ℕ) (x : Float) → Signed false x → Within A x → Upto A x
-within-upto A nan s h = h
-within-upto A (inf t) s h = h
-within-upto A (fin true m e) s h = absurd (true≢false s)
-within-upto A (fin false m e) s h = h
-
 pub within-neg : (A : ℕ) (x : Float) → Within A x → Within A (neg x)
 unfolding neg
 within-neg A nan h = h
 within-neg A (inf s) h = h
 within-neg A (fin s m e) h = h
 
-pub within-more : (A B : ℕ) (x : Float) → A ≤ B → Within A x → Within B x
-within-more A B nan l h = h
-within-more A B (inf s) l h = h
-within-more A B (fin s m e) l h = le-trans h (mul-le-mul-right (down e) l)
-
-pub upto-more : (A B : ℕ) (x : Float) → A ≤ B → Upto A x → Upto B x
-upto-more A B nan l h = h
-upto-more A B (inf s) l h = h
-upto-more A B (fin true m e) l h = h
-upto-more A B (fin false m e) l h = le-trans h (mul-le-mul-right (down e) l)
-
 -- ---- below a value that is A
-pub or-split : (a b : Bool) → T (a || b) → T a ⊎ T b
-or-split true b t = inl tt
-or-split false b t = inr t
-
 pub le-of-test : (a b : ℕ) (w : Bool) → T (ltb a b || (eqb a b && w)) → a ≤ b
-le-of-test a b w t = elim (or-split (ltb a b) (eqb a b && w) t) [ inl u ↦ le-of-lt (ltb→lt a b u) | inr u ↦ le-of-eq (eqb→eq a b (and-l (eqb a b) w u)) ]
+le-of-test a b w t = elim (or-yes (ltb a b) (eqb a b && w) t) [ inl u ↦ le-of-lt (ltb→lt a b u) | inr u ↦ le-of-eq (eqb→eq a b (and-l (eqb a b) w u)) ]
 
-cut : (x e y d A : ℕ) → 0 < d → y * 1 ≡ A * d → x * d ≤ y * e → x ≤ A * e
+pub cut : (x e y d A : ℕ) → 0 < d → y * 1 ≡ A * d → x * d ≤ y * e → x ≤ A * e
 cut x e y d A D p h = le-of-mul-le-mul-right (le-trans h (le-of-eq (ap (λ (z : ℕ). z * e) (sym (mul-one y) ∙ p) ∙ mul-right-comm A d e))) D
 
 pub upto-of-le : (A : ℕ) (x y : Float) → Signed false x → HasValue y false A 1 → T (le x y) → Upto A x
@@ -154,9 +133,6 @@ square-upto A (fin true m e) L h = round-upto (A * A) (m * up e * (m * up e)) (d
 square-upto A (fin false m e) L h = round-upto (A * A) (m * up e * (m * up e)) (down e * down e) (mul-pos (down-pos e) (down-pos e)) L (le-trans (mul-le-mul h h) (le-of-eq (mul-mul-mul-comm A (down e) A (down e))))
 
 -- ---- sums
-less : (a b : ℕ) → a - b ≤ a
-less a b = omega arith
-
 first : (a b X Y : ℕ) → a ≤ X → b ≤ Y → a + b ≤ X + Y
 first a b X Y h k = omega arith
 

@@ -1,15 +1,14 @@
 -- What `judgedOf` is: the tile that it names is over its limit and no earlier one is, and where it names none, none is (`judged-is`); no other
 -- answer is that (`judged-only`). A tile is over its limit exactly if so many colours and one more, no two the same, are those of its
--- pixels (`over-if`, `over-only`). What fits under a limit fits under every larger one (`fits-more`). The answer depends on nothing but the
--- picture's pixels (`judged-same`). Assumes nothing.
-use mathlib.Core.Path.{_≡_, refl, ap, subst}
+-- pixels (`over-if`, `over-only`). The answer depends on nothing but the picture's pixels (`judged-same`). Assumes nothing.
+use mathlib.Core.Path.{_≡_, refl, ap}
 use mathlib.Core.Bool.{Bool, true, false, cond}
 use mathlib.Core.List.{List}
-use Prim.Native.Nat.{ℕ, _+_, _*_, _≤_, _<_}
+use Prim.Native.Nat.{ℕ, _+_, _*_, _<_}
 use native.Mathlib.Nat.{lt-of-lt-of-le}
 use native.Mathlib.Omega.{arith}
 use borrow.Author.Tests.{ltb-true, ltb-false}
-use lib.Dec.{T, T-not, not-T, ltb, ltb→lt, lt→ltb}
+use lib.Dec.{T, T-not, ltb, ltb→lt, lt→ltb}
 use lib.ListN.{length}
 use Rattle.lists.specs.First.{firstThat, First}
 use Rattle.lists.specs.Unique.{Unique}
@@ -17,20 +16,15 @@ use Rattle.lists.proofs.FirstLaws.{first-is, first-only}
 use Rattle.color.specs.declared.ReducedColor.{ReducedColor}
 use Rattle.color.specs.Color.{sameReduced}
 use Rattle.color.proofs.Same.{same→equal, same-self}
-use Rattle.lists.specs.Different.{Different, Many}
+use Rattle.lists.specs.Different.{Many}
 use Rattle.judging.specs.Tiles.{tileCount, countsIn, colorsIn, isOver, firstOver, verdictOf, judgedOf, JudgedAs}
 use Rattle.judging.specs.declared.Judged.the-variants.{Fits, Over}
-use Rattle.lists.proofs.DifferentLaws.{Equality, differing-same, different-is, many-if, many-only}
+use Rattle.lists.proofs.DifferentLaws.{Equality, differing-same, many-if, many-only}
 
 equality : Equality sameReduced
 equality = record { equal = same→equal; self = same-self }
 
 module _ (opaque : ℕ → Bool) (color : ℕ → ReducedColor) (w h tw th : ℕ) where
-  -- ---- a tile's colours: each once, those of its pixels that count, and all of them
-  pub colors-is : (t : ℕ) → Different sameReduced (countsIn opaque w tw th t) color (w * h) (colorsIn opaque color w h tw th t)
-  unfolding colorsIn
-  colors-is t = different-is equality (countsIn opaque w tw th t) color (w * h)
-
   -- ---- over its limit
   pub over-only : (limit t : ℕ) → T (isOver opaque color w h tw th limit t) → Many sameReduced (countsIn opaque w tw th t) color (w * h) (limit + 1)
   unfolding isOver colorsIn
@@ -39,13 +33,6 @@ module _ (opaque : ℕ → Bool) (color : ℕ → ReducedColor) (w h tw th : ℕ
   pub over-if : (limit t : ℕ) → Many sameReduced (countsIn opaque w tw th t) color (w * h) (limit + 1) → T (isOver opaque color w h tw th limit t)
   unfolding isOver colorsIn
   over-if limit t m = lt→ltb limit (length (colorsIn opaque color w h tw th t)) (omega (arith, many-if equality (countsIn opaque w tw th t) color (w * h) (limit + 1) m))
-
-  -- a larger limit is harder to exceed
-  pub over-less : (limit limit′ t : ℕ) → limit ≤ limit′ → T (isOver opaque color w h tw th limit′ t) → T (isOver opaque color w h tw th limit t)
-  unfolding isOver
-  over-less limit limit′ t l o =
-      let n = length (colorsIn opaque color w h tw th t) in
-      lt→ltb limit n (omega (arith, ltb→lt limit′ n o))
 
   -- ---- the answer
   module _ (limit : ℕ) where
@@ -65,12 +52,6 @@ module _ (opaque : ℕ → Bool) (color : ℕ → ReducedColor) (w h tw th : ℕ
       where
         first : (t : ℕ) → JudgedAs opaque color w h tw th limit (Over t) → First (isOver opaque color w h tw th limit) (tileCount w h tw th) t
         first t a = record { inside = omega (arith, a .0); before = a .2; passes = λ _. a .1 }
-
-  pub fits-more : (limit limit′ : ℕ) → limit ≤ limit′ → judgedOf opaque color w h tw th limit ≡ Fits → judgedOf opaque color w h tw th limit′ ≡ Fits
-  fits-more limit limit′ l e =
-      let none : JudgedAs opaque color w h tw th limit Fits = subst (JudgedAs opaque color w h tw th limit) e (judged-is limit) in
-      judged-only limit′ (judgedOf opaque color w h tw th limit′) Fits (judged-is limit′)
-      (λ t k. not-T (isOver opaque color w h tw th limit′ t) (λ o. T-not (isOver opaque color w h tw th limit t) (none t k) (over-less limit limit′ t l o)))
 
 -- two pictures with the same opaque pixels and the same colours
 module _ {opaque opaque′ : ℕ → Bool} {color color′ : ℕ → ReducedColor} (w h tw th : ℕ) (opaques : (i : ℕ) → i < w * h → opaque i ≡ opaque′ i) (colors : (i : ℕ) → i < w * h → color i ≡ color′ i) where

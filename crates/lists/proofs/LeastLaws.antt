@@ -1,15 +1,15 @@
--- `leastOf` is the first of the least, and nothing else is; the steps of a loop that looks for it. The steps hold of any comparison. Assumes nothing.
+-- `leastOf` is the first of the least, and nothing else is; a step of it, and many at once. The steps hold of any comparison. Assumes nothing.
 use mathlib.Core.Path.{_≡_, refl, sym, _∙_, ap}
 use mathlib.Core.Logic.{⊎-elim}
-use mathlib.Core.Bool.{Bool, true, false, cond}
+use mathlib.Core.Bool.{Bool, true, false, cond, not}
 use Prim.Native.Nat.{ℕ, zero, suc, _+_, _≤_, _<_}
 use native.Mathlib.Nat.{le-antisymm, lt-of-not-le, eq-or-lt-of-le, le-of-suc-le-suc, not-suc-le-zero}
 use native.Mathlib.Numerals.{add-one}
 use native.Mathlib.Omega.{arith}
-use lib.Dec.{T-not}
-use Rattle.lists.specs.Least.{leastOf, Least, Front, Comparison}
-use Rattle.lists.proofs.Bools.{holds, fails}
-use Rattle.lists.proofs.FrontLaws.{front-begin, front-less, front-left, front-least}
+use borrow.Author.Count.{below-more}
+use lib.Dec.{T, T-not, not-T}
+use Rattle.lists.specs.Least.{leastOf, Least, Comparison}
+use Rattle.lists.proofs.Bools.{holds, fails, contra}
 
 one-of : {n r : ℕ} (t : Bool) → r ≤ n → cond t n r ≤ n
 one-of true h = omega arith
@@ -34,17 +34,6 @@ module _ {A : Type 0} (less : A → A → Bool) (d : ℕ → A) where
   pub least-one : leastOf less d 1 ≡ 0
   least-one = omega (arith, least-inside 1 (omega arith))
 
-  -- a turn of a loop that holds the best of the first i, and its value y, and sees x
-  module _ (i best : ℕ) (x y : A) (at : best ≡ leastOf less d i) (held : y ≡ d best) (seen : x ≡ d i) where
-    test : less (d i) (d (leastOf less d i)) ≡ less x y
-    test = cc
-
-    pub least-taken : less x y ≡ true → i ≡ leastOf less d (i + 1)
-    least-taken e = sym (least-step i ∙ rw (test, e))
-
-    pub least-left : less x y ≡ false → best ≡ leastOf less d (i + 1)
-    least-left e = at ∙ sym (least-step i ∙ rw (test, e))
-
   -- the positions from i to before j are not less than the best of the first i
   pub least-past : (i j best : ℕ) → best ≡ leastOf less d i → i ≤ j → ((k : ℕ) → i ≤ k → k < j → less (d k) (d best) ≡ false) → best ≡ leastOf less d j
   unfolding leastOf
@@ -56,7 +45,24 @@ module _ {A : Type 0} (less : A → A → Bool) (d : ℕ → A) where
       here ∙ sym (rw (← here, none j (le-of-suc-le-suc l) (omega arith))))
       (eq-or-lt-of-le h)
 
+-- values that agree below n have the same least
+pub least-same : {A : Type 0} (less : A → A → Bool) (d e : ℕ → A) (n : ℕ) → ((k : ℕ) → k < n → d k ≡ e k) → leastOf less d n ≡ leastOf less e n
+unfolding leastOf
+least-same less d e zero h = refl
+least-same less d e (suc n) h =
+    let same : leastOf less d n ≡ leastOf less e n = least-same less d e n (λ k l. h k (omega arith)) in
+    let there : d (leastOf less d n) ≡ e (leastOf less e n) = h (leastOf less d n) (omega (arith, at-most less d n)) ∙ ap e same in
+    λ i. cond (less (h n (omega arith) i) (there i)) n (same i)
+
 -- ---- what it is
+module _ {A : Type 0} {less : A → A → Bool} {P : A → Type 0} (C : Comparison less P) where
+  irreflexive : (x : A) → P x → T (not (less x x))
+  irreflexive x p = not-T (less x x) (λ t. T-not (less x x) (C .asymmetric x x p p t) t)
+
+  -- x is less than y, and y at most z
+  less-then : (x y z : A) → P x → P y → P z → T (less x y) → T (not (less z y)) → T (less x z)
+  less-then x y z p q r h k = contra (less x y) (less x z) (λ n. C .transitive y z x q r p k n) h
+
 module _ {A : Type 0} {less : A → A → Bool} {d : ℕ → A} where
   pub least-only : {n r q : ℕ} → Least less d n r → Least less d n q → r ≡ q
   least-only {n} a b = le-antisymm (no-later b a) (no-later a b)
@@ -65,21 +71,41 @@ module _ {A : Type 0} {less : A → A → Bool} {d : ℕ → A} where
       no-later {r} {q} a b = le-of-suc-le-suc (lt-of-not-le (λ h. T-not (less (d q) (d r)) (a .least q (b .inside)) (b .first r h)))
 
   module _ {P : A → Type 0} (C : Comparison less P) where
-    in-front : (n : ℕ) → ((k : ℕ) → k < n → P (d k)) → Front less d n (leastOf less d n)
+    alone : P (d 0) → Least less d 1 (leastOf less d 1)
+    alone p = rw (least-one less d) (record {
+      inside = omega arith;
+      least = below-more (λ (k : ℕ). T (not (less (d k) (d 0)))) 0 (λ k h. absurd (not-suc-le-zero h)) (irreflexive C (d 0) p);
+      first = λ k h. absurd (not-suc-le-zero h);
+    })
+
+    some-least : (n : ℕ) → ((k : ℕ) → k < suc n → P (d k)) → Least less d (suc n) (leastOf less d (suc n))
     unfolding leastOf
-    in-front zero known = front-begin d zero
-    in-front (suc n) known = go (less (d n) (d (leastOf less d n))) refl (in-front n (λ k h. known k (omega arith)))
+    some-least zero known = alone (known 0 (omega arith))
+    some-least (suc n) known = go (less (d (suc n)) (d r)) refl (some-least n (λ k h. known k (omega arith)))
       where
         r : ℕ
-        r = leastOf less d n
+        r = leastOf less d (suc n)
 
-        go : (t : Bool) → less (d n) (d r) ≡ t → Front less d n r → Front less d (suc n) (cond t n r)
-        go true e f = rw add-one at (front-less f C (suc n) known (omega (arith, at-most less d n)) (omega arith) (holds e))
-        go false e f = rw add-one at (front-left f (fails e) (λ l. absurd (omega (arith, at-most less d n))))
+        go : (t : Bool) → less (d (suc n)) (d r) ≡ t → Least less d (suc n) r → Least less d (suc (suc n)) (cond t (suc n) r)
+        go true e f =
+            let i = suc n in
+            let here : P (d i) = known i (omega arith) in
+            let best : P (d r) = known r (omega (arith, f .inside)) in
+            record {
+              inside = omega arith;
+              least = λ k h. below-more (λ (k : ℕ). T (not (less (d k) (d i)))) i
+                  (λ k l. C .transitive (d i) (d r) (d k) here best (known k (omega arith)) (C .asymmetric (d i) (d r) here best (holds e)) (f .least k l))
+                  (irreflexive C (d i) here)
+                  k
+                  (omega arith);
+              first = λ k l. less-then C (d i) (d r) (d k) here best (known k (omega arith)) (holds e) (f .least k l);
+            }
+        go false e f = record {
+          inside = omega (arith, f .inside);
+          least = λ k h. below-more (λ (k : ℕ). T (not (less (d k) (d r)))) (suc n) (f .least) (fails e) k (omega arith);
+          first = f .first;
+        }
 
     pub least-is : (n : ℕ) → 0 < n → ((k : ℕ) → k < n → P (d k)) → Least less d n (leastOf less d n)
-    least-is n h known = front-least (in-front n known) (least-inside less d n h)
-
-    -- what stands in front of all is the first of the least
-    pub front-done : {n r : ℕ} → ((k : ℕ) → k < n → P (d k)) → r < n → Front less d n r → r ≡ leastOf less d n
-    front-done {n} {r} known h f = least-only (front-least f h) (least-is n (omega arith) known)
+    least-is zero h known = absurd (not-suc-le-zero h)
+    least-is (suc n) h known = some-least n known

@@ -4,7 +4,6 @@ pub mod GatherLaws
 pub mod FillLaws
 pub mod FirstLaws
 pub mod LeastLaws
-pub mod FrontLaws
 pub mod OrderLaws
 pub mod DifferentLaws
 pub mod SlideLaws

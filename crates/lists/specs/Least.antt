@@ -16,11 +16,6 @@ module _ {A : Type 0} (less : A → A → Bool) where
     pub least : (k : ℕ) → k < n → T (not (less (d k) (d r)))
     pub first : (k : ℕ) → k < r → T (less (d r) (d k))
 
-  -- part of the way: r is as good as any of the first i, and better than those of them that stand before it; r itself may stand anywhere
-  pub record Front (d : ℕ → A) (i r : ℕ) : Type 0 where
-    pub least : (k : ℕ) → k < i → T (not (less (d k) (d r)))
-    pub first : (k : ℕ) → k < i → k < r → T (less (d r) (d k))
-
   -- what the comparison has to be on the values that satisfy P: asymmetric, and "not less" is transitive
   pub record Comparison (P : A → Type 0) : Type 0 where
     pub asymmetric : (x y : A) → P x → P y → T (less x y) → T (not (less y x))

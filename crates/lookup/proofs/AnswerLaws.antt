@@ -23,7 +23,6 @@ use Rattle.lookup.specs.Bracket.{bracketOf}
 use Rattle.lookup.specs.Lists.{listReplies, listNumber}
 use Rattle.lookup.specs.Answers.{nearestAnswer, nearestTwoAnswer, bracketAnswer, numberOf, numberOfTwo, numberOfBracket}
 use Rattle.lookup.specs.declared.Two.{Two}
-use Rattle.lookup.specs.declared.Bracket.{Bracket}
 use Rattle.lookup.specs.declared.Found.the-variants as found
 use Rattle.lookup.specs.declared.FoundTwo.the-variants as two
 use Rattle.lookup.specs.declared.FoundBracket.the-variants as bracket
@@ -31,10 +30,10 @@ use Rattle.lookup.proofs.ListLaws.{accepted}
 
 -- ---- any answer by its number
 module _ {A : Type 0} (refusal : ℕ → A) where
-  refused : (n r : ℕ) (result : A) → r ≡ n → (r ≡ 0 → ⊥) → refusal r ≡ after n result (refusal n)
+  pub refused : (n r : ℕ) (result : A) → r ≡ n → (r ≡ 0 → ⊥) → refusal r ≡ after n result (refusal n)
   refused n r result e h = ap refusal e ∙ after-refused n result (refusal n) (λ z. h (e ∙ z))
 
-  granted : (n r : ℕ) (given result : A) → r ≡ n → r ≡ 0 → given ≡ result → given ≡ after n result (refusal n)
+  pub granted : (n r : ℕ) (given result : A) → r ≡ n → r ≡ 0 → given ≡ result → given ≡ after n result (refusal n)
   granted n r given result e z g = g ∙ after-accepted n result (refusal n) (sym e ∙ z)
 
   pub numbered : (number : A → ℕ) (n : ℕ) (result : A) → number result ≡ 0 → ((m : ℕ) → number (refusal m) ≡ m) → number (after n result (refusal n)) ≡ n
@@ -70,12 +69,8 @@ module _ (reduced normalized : List ℕ) (oklab : List Float) where
       unfolding bracketAnswer
       bracket-number = numbered bracket.Refused numberOfBracket (listNumber reduced normalized oklab) (bracket.Of (bracketOf (flat reduced normalized oklab) width (toOklab color) color)) refl (λ m. refl)
 
-    -- ---- what the calls answer
+    -- ---- what is answered of an accepted list
     module _ (r : ℕ) (e : r ≡ listNumber reduced normalized oklab) where
-      pub nearest-refused : (r ≡ 0 → ⊥) → found.Refused r ≡ nearestAnswer reduced normalized oklab color
-      unfolding nearestAnswer
-      nearest-refused h = refused found.Refused (listNumber reduced normalized oklab) r (found.At (nearestOf (flat reduced normalized oklab) (toOklab color))) e h
-
       pub nearest-accepted : r ≡ 0 → (o : Oklab) (k : ℕ) → o ≡ toOklab color → k ≡ nearestIn (oklabAt oklab) (length reduced / 4) o → found.At k ≡ nearestAnswer reduced normalized oklab color
       unfolding nearestAnswer
       nearest-accepted z o k p q =
@@ -83,22 +78,8 @@ module _ (reduced normalized : List ℕ) (oklab : List Float) where
           (ap found.At (q ∙ ap (nearestIn (oklabAt oklab) (length reduced / 4)) p))
 
       module _ (width : ℕ) where
-        pub two-refused : (r ≡ 0 → ⊥) → two.Refused r ≡ nearestTwoAnswer reduced normalized oklab color width
-        unfolding nearestTwoAnswer
-        two-refused h = refused two.Refused (listNumber reduced normalized oklab) r (two.At (nearestTwoOf (flat reduced normalized oklab) width (toOklab color) color)) e h
-
         pub two-accepted : r ≡ 0 → (o : Oklab) (t : Two) → o ≡ toOklab color → t ≡ nearestTwoOf (flat reduced normalized oklab) width o color → two.At t ≡ nearestTwoAnswer reduced normalized oklab color width
         unfolding nearestTwoAnswer
         two-accepted z o t p q =
             granted two.Refused (listNumber reduced normalized oklab) r (two.At t) (two.At (nearestTwoOf (flat reduced normalized oklab) width (toOklab color) color)) e z
             (ap two.At (q ∙ ap (λ (u : Oklab). nearestTwoOf (flat reduced normalized oklab) width u color) p))
-
-        pub bracket-refused : (r ≡ 0 → ⊥) → bracket.Refused r ≡ bracketAnswer reduced normalized oklab color width
-        unfolding bracketAnswer
-        bracket-refused h = refused bracket.Refused (listNumber reduced normalized oklab) r (bracket.Of (bracketOf (flat reduced normalized oklab) width (toOklab color) color)) e h
-
-        pub bracket-accepted : r ≡ 0 → (o : Oklab) (b : Bracket) → o ≡ toOklab color → b ≡ bracketOf (flat reduced normalized oklab) width o color → bracket.Of b ≡ bracketAnswer reduced normalized oklab color width
-        unfolding bracketAnswer
-        bracket-accepted z o b p q =
-            granted bracket.Refused (listNumber reduced normalized oklab) r (bracket.Of b) (bracket.Of (bracketOf (flat reduced normalized oklab) width (toOklab color) color)) e z
-            (ap bracket.Of (q ∙ ap (λ (u : Oklab). bracketOf (flat reduced normalized oklab) width u color) p))

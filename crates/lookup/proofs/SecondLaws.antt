@@ -16,8 +16,7 @@ use lib.Ieee.{Float, lt}
 use Rattle.floats.proofs.Order.{Plain, upto-plain}
 use Rattle.lists.specs.Least.{leastOf}
 use Rattle.lists.specs.Order.{In}
-use Rattle.lists.proofs.Bools.{clash}
-use Rattle.lists.proofs.LeastLaws.{least-step, least-one, least-inside, least-is, least-only}
+use Rattle.lists.proofs.LeastLaws.{least-step, least-one, least-inside, least-same, least-is, least-only}
 use Rattle.lists.proofs.OrderLaws.{in-at}
 use Rattle.color.specs.declared.NormalizedColor.{NormalizedColor}
 use Rattle.mixing.specs.Lerp.{shareOf, lerpOf, between, mixResidual, Bytes}
@@ -30,19 +29,6 @@ use Rattle.lookup.specs.declared.Second.the-variants.{At, Nothing}
 use Rattle.shortlist.proofs.NearestLaws.{by-lt}
 
 -- ---- one entry more in `leastAmong`
-
--- values that agree below n have the same least
-least-same : (d f : ℕ → Float) (n : ℕ) → ((k : ℕ) → k < n → d k ≡ f k) → leastOf lt d n ≡ leastOf lt f n
-unfolding leastOf
-least-same d f zero h = refl
-least-same d f (suc n) h =
-    let r : leastOf lt d n ≡ leastOf lt f n = least-same d f n (λ k l. h k (omega arith)) in
-    let v : d (leastOf lt f n) ≡ f (leastOf lt f n) = h (leastOf lt f n) (inside n) in
-    rw (r, v, h n (omega arith))
-  where
-    inside : (n : ℕ) → leastOf lt f n < suc n
-    inside zero = omega arith
-    inside (suc n) = omega (arith, least-inside lt f (suc n) (omega arith))
 
 module _ (e : ℕ → Float) where
   pub among-one : (k : ℕ) → leastAmong e (k ∷ []) ≡ k
@@ -59,7 +45,7 @@ module _ (e : ℕ → Float) where
       let r : ℕ = leastOf lt f n in
       let size : length all ≡ n + 1 = length-append ks (k ∷ []) in
       let last : getD all n 0 ≡ k = ap (λ (i : ℕ). getD all i 0) (sym (plus n)) ∙ getD-append-add ks (k ∷ []) 0 0 in
-      let same : leastOf lt d n ≡ r = least-same d f n (λ j l. ap e (List·getD-append ks (k ∷ []) 0 j l)) in
+      let same : leastOf lt d n ≡ r = least-same lt d f n (λ j l. ap e (List·getD-append ks (k ∷ []) 0 j l)) in
       let here : getD all r 0 ≡ getD ks r 0 = List·getD-append ks (k ∷ []) 0 r (least-inside lt f n h) in
       ap (λ (i : ℕ). getD all (leastOf lt d i) 0) size
       ∙ ap (λ (i : ℕ). getD all i 0) (least-step lt d n)
@@ -153,16 +139,6 @@ those-in p (x ∷ ks) k i = go (p x) refl i (those-in p ks k)
     go true q (inl e) later = (inl e, ap p e ∙ q)
     go true q (inr h) later = (inr (later h .0), later h .1)
     go false q h later = (inr (later h .0), later h .1)
-
-pub in-those : (p : ℕ → Bool) (ks : List ℕ) (k : ℕ) → In k ks → p k ≡ true → In k (those p ks)
-in-those p [] k i t = i
-in-those p (x ∷ ks) k i t = go (p x) refl i (λ h. in-those p ks k h t)
-  where
-    go : (u : Bool) → p x ≡ u → (k ≡ x) ⊎ In k ks → (In k ks → In k (those p ks)) → In k (cond u (x ∷ those p ks) (those p ks))
-    go true q (inl e) later = inl e
-    go true q (inr h) later = inr (later h)
-    go false q (inl e) later = absurd (clash t (ap p e ∙ q))
-    go false q (inr h) later = later h
 
 among-in : (e : ℕ → Float) (ks : List ℕ) → 0 < length ks → In (leastAmong e ks) ks
 unfolding leastAmong

@@ -1,11 +1,10 @@
 -- Shares from 0 to 1. The two tests give the bound, and clamping brings every number within it and leaves those that pass as they are, -0 too.
 -- Of a fraction n / L, rounded once, with L up to 2 ^ 18 the tests say exactly that 0 ≤ n ≤ L. Assumes nothing.
 use mathlib.Core.Path.{_≡_, refl, sym, ap, _∙_, subst}
-use mathlib.Core.Logic.{inl, inr}
 use Prim.Native.Nat.{ℕ, zero, suc, _+_, _*_, _≤_, _<_, zero-le}
 use native.Mathlib.Nat.{le-trans, le-of-eq, mul-one, zero-mul, mul-pos}
 use native.Mathlib.Omega.{arith}
-use mathlib.Core.Bool.{Bool, true, false, not, _&&_, _||_, cond}
+use mathlib.Core.Bool.{Bool, true, false, not, _&&_, cond}
 use borrow.Author.Tests.{le-ltb, ne-eqb}
 use lib.IntN.{negsuc}
 use lib.Dec.{T, leb, ltb, eqb, leb→le, nleb→lt, leb·zero, ltb→lt, nltb→le, eqb→eq, lit≤, lit<}
@@ -18,7 +17,8 @@ use Rattle.floats.specs.Bounds.{Within}
 use Rattle.floats.specs.Bytes.{zeroF, oneF}
 use Rattle.floats.specs.Whole.{val}
 use Rattle.floats.proofs.At.{same-test}
-use Rattle.floats.proofs.Within.{or-split, le-of-test, round-neg}
+use Rattle.floats.proofs.Within.{le-of-test, round-neg}
+use Rattle.floats.proofs.Range.{flip}
 use Rattle.mixing.specs.Lerp.{clampOf, between, inside, minusZero}
 
 -- ---- the tests give the bound
@@ -86,13 +86,7 @@ not-above (fin false m e) (fin true n d) t = zeros (m * up e * down d) (n * up d
 
     zeros : (a b : ℕ) → T (eqb a b && eqb a 0) → ltb 0 (b + a) ≡ false
     zeros a b u = le-ltb 0 (b + a) (sum a b (eqb→eq a b (and-l (eqb a b) (eqb a 0) u)) (eqb→eq a 0 (and-r (eqb a b) (eqb a 0) u)))
-not-above (fin true m e) (fin true n d) t = flip (m * up e * down d) (n * up d * down e) t
-  where
-    lower : (a b : ℕ) → b < a → b ≤ a
-    lower a b h = omega arith
-
-    flip : (a b : ℕ) → T (ltb b a || (eqb a b && true)) → ltb a b ≡ false
-    flip a b u = le-ltb a b (elim (or-split (ltb b a) (eqb a b && true) u) [ inl v ↦ lower a b (ltb→lt b a v) | inr v ↦ le-of-eq (sym (eqb→eq a b (and-l (eqb a b) true v))) ])
+not-above (fin true m e) (fin true n d) t = le-ltb (m * up e * down d) (n * up d * down e) (flip (m * up e * down d) (n * up d * down e) true t)
 
 pub clamp-stays : (t : Float) → between t ≡ true → clampOf t ≡ t
 unfolding between clampOf

@@ -1,12 +1,11 @@
 -- `mix_residual` of bytes at a share from 0 to 1 is finite, at most 3,121,200, not negative and not -0, so ordinary comparison puts such errors in
 -- their order. Assumes nothing.
 use Prim.Native.Nat.{ℕ, _<_}
-use lib.Dec.{T, lit≤}
-use lib.Ieee.{Float, binary32, sub, mul, fits}
-use lib.Ieee.Fits.{add-fits}
+use lib.Dec.{lit≤}
+use lib.Ieee.{Float, binary32, sub, mul}
 use Rattle.color.specs.declared.NormalizedColor.{NormalizedColor}
 use Rattle.floats.specs.Bounds.{Within, Upto}
-use Rattle.floats.specs.Bytes.{byteF, dot}
+use Rattle.floats.specs.Bytes.{byteF}
 use Rattle.floats.proofs.Within.{mul-within, add-within, sub-within}
 use Rattle.floats.proofs.Bytes.{byte-within, diff-within}
 use Rattle.floats.proofs.Dot.{square-dot}
@@ -27,7 +26,3 @@ module _ (a b : NormalizedColor) (t : Float) (color : NormalizedColor) where
   residual-upto A B h C =
       square-dot 1020 _ _ _ (lit≤ tt) (error-within (color .0 .r) (a .0 .r) (b .0 .r) t (C .r) (A .r) (B .r) h) (error-within (color .0 .g) (a .0 .g) (b .0 .g) t (C .g) (A .g) (B .g) h)
       (error-within (color .0 .b) (a .0 .b) (b .0 .b) t (C .b) (A .b) (B .b) h)
-
-  pub residual-fits : T (fits binary32 (mixResidual a b t color))
-  unfolding mixResidual dot
-  residual-fits = add-fits binary32 _ _

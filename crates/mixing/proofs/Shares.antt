@@ -8,7 +8,7 @@ use native.Mathlib.Nat.{le-trans, lt-of-le-of-lt, eq-zero-or-pos, mul-pos, zero-
 use native.Mathlib.Omega.{arith}
 use mathlib.Core.Bool.{true, false, not, _&&_, true≢false}
 use borrow.Author.Tests.{ne-eqb}
-use lib.IntN.{ℤ, pos, negsuc, natAbs, _+ℤ_, _*ℤ_, +ℤ-invr, +ℤ-idl, -ℤ-+ℤ-cancel, *ℤ-zero}
+use lib.IntN.{ℤ, pos, negsuc, natAbs, _+ℤ_, +ℤ-invr, +ℤ-idl, -ℤ-+ℤ-cancel, *ℤ-zero}
 use lib.Dec.{T, eqb, eqb→eq, lit≤, lit<}
 use lib.Ieee.{Float, nan, inf, fin, binary32, up, down, div, eq, isNan}
 use lib.Ieee.Exact.{HasValue}
@@ -22,10 +22,10 @@ use Rattle.floats.proofs.At.{same-test}
 use Rattle.floats.proofs.Over.{over-value}
 use Rattle.floats.proofs.Order.{within-not-nan}
 use Rattle.floats.proofs.Whole.{whole-plain, whole-div, quotient, quotient-within}
-use Rattle.floats.proofs.Dot.{Triple, dot-whole, dot-bound, square-dot, squares}
+use Rattle.floats.proofs.Dot.{Triple, dot-whole, dot-bound, square-dot, square, squares}
 use Rattle.floats.proofs.Bytes.{diffs, diff-within}
-use Rattle.mixing.specs.Lerp.{less, along, shareOf, lerpOf, between, minusZero, Bytes, EqualRgb, numerator, denominator, inside}
-use Rattle.mixing.proofs.Between.{zero-between, clamp-within, between-round}
+use Rattle.mixing.specs.Lerp.{less, along, shareOf, between, minusZero, Bytes, EqualRgb, numerator, denominator, inside}
+use Rattle.mixing.proofs.Between.{zero-between, between-round}
 
 -- ---- whole numbers
 no-difference : (a b : ℕ) → b ≡ a → diff a b ≡ pos 0
@@ -38,10 +38,6 @@ no-size : (z : ℤ) → natAbs z * natAbs z ≡ 0 → z ≡ pos 0
 no-size (pos zero) h = refl
 no-size (pos (suc n)) h = absurd (lt-irrefl 0 (subst (λ (k : ℕ). 0 < k) h (mul-pos (zero-lt-suc n) (zero-lt-suc n))))
 no-size (negsuc n) h = absurd (lt-irrefl 0 (subst (λ (k : ℕ). 0 < k) h (mul-pos (zero-lt-suc n) (zero-lt-suc n))))
-
-square : (z : ℤ) → z *ℤ z ≡ pos (natAbs z * natAbs z)
-square (pos n) = refl
-square (negsuc n) = refl
 
 -- a sum of squares is 0 only where each number is
 no-length : (x y z : ℤ) → natAbs (dotℤ x y z x y z) ≡ 0 → (x ≡ pos 0) × (y ≡ pos 0) × (z ≡ pos 0)
@@ -173,8 +169,3 @@ module _ (c1 c2 color : NormalizedColor) (A : Bytes c1) (B : Bytes c2) (C : Byte
         rw (share-quotient h, whole-div (numerator c1 c2 color) (denominator c1 c2) (along c1 c2 color) w (lt-of-le-of-lt (numerator-bound c1 c2 color A B C) (lit< tt)) h (small c1 c2 A B), ← w .value)
         (between-round (denominator c1 c2) h (le-trans (denominator-bound c1 c2 A B) (lit≤ tt)) (w .sign) (w .size))
   ]
-
-  -- the clamped share
-  pub clamped-within : Within 1 (lerpOf c1 c2 color true)
-  unfolding lerpOf
-  clamped-within = clamp-within 195075 (shareOf c1 c2 color) share-within

@@ -7,15 +7,15 @@ use Prim.Native.Nat.{ℕ, _+_, _*_, _≤_, _<_}
 use native.Mathlib.Nat.{mul-le-mul, le-of-lt}
 use native.Mathlib.Omega.{arith}
 use lib.Dec.{T, eqb, eqb→eq}
-use Rattle.floats.proofs.Within.{or-split}
+use mir.Facts.{or-yes}
 use Rattle.mixing.specs.Widths.{isShift, clampWidth, sixteenth, widthOf}
 
 -- ---- the shifts
 pub shift-range : (s : ℕ) → isShift s ≡ true → (3 ≤ s) × (s ≤ 5)
 unfolding isShift
-shift-range s e = elim (or-split (eqb s 3) (eqb s 4 || eqb s 5) (subst T (sym e) tt)) [
+shift-range s e = elim (or-yes (eqb s 3) (eqb s 4 || eqb s 5) (subst T (sym e) tt)) [
   | inl t ↦ near s 3 (eqb→eq s 3 t) (omega arith) (omega arith)
-  | inr t ↦ elim (or-split (eqb s 4) (eqb s 5) t) [ inl u ↦ near s 4 (eqb→eq s 4 u) (omega arith) (omega arith) | inr u ↦ near s 5 (eqb→eq s 5 u) (omega arith) (omega arith) ]
+  | inr t ↦ elim (or-yes (eqb s 4) (eqb s 5) t) [ inl u ↦ near s 4 (eqb→eq s 4 u) (omega arith) (omega arith) | inr u ↦ near s 5 (eqb→eq s 5 u) (omega arith) (omega arith) ]
 ]
   where
     near : (s k : ℕ) → s ≡ k → 3 ≤ k → k ≤ 5 → (3 ≤ s) × (s ≤ 5)

@@ -1,12 +1,13 @@
 -- What one computed test of a list shows of each place: two functions that give the same list agree at each number below its length.
 -- Assumes nothing.
 use mathlib.Core.Path.{_≡_, sym, _∙_, subst}
-use mathlib.Core.Bool.{Bool, true, false, _&&_}
+use mathlib.Core.Bool.{Bool, true, _&&_}
 use mathlib.Core.List.{List, [], _∷_}
 use Prim.Native.Nat.{ℕ, zero, suc, _+_, _<_}
 use native.Mathlib.Nat.{add-zero, zero-add, add-suc, suc-add, le-of-suc-le-suc, not-suc-le-zero}
 use lib.Dec.{T}
 use lib.ListN.{getD}
+use lib.Ieee.Fits.{and-l, and-r}
 
 -- f i, f (i + 1), .., n of them
 abbrev pub from : {A : Type 0} → (ℕ → A) → ℕ → ℕ → List A
@@ -23,19 +24,6 @@ agree-from f g (suc n) i e (suc k) h =
 pub agree : {A : Type 0} (f g : ℕ → A) (n : ℕ) → from f 0 n ≡ from g 0 n → (k : ℕ) → k < n → f k ≡ g k
 agree f g n e k h = subst (λ (m : ℕ). f m ≡ g m) (zero-add k) (agree-from f g n 0 e k h)
 
--- the two parts of a test
-pub both : (a b : Bool) → T a → T b → T (a && b)
-both true b s t = t
-both false b s t = absurd s
-
-pub both-left : (a b : Bool) → T (a && b) → T a
-both-left true b t = tt
-both-left false b t = t
-
-pub both-right : (a b : Bool) → T (a && b) → T b
-both-right true b t = t
-both-right false b t = absurd t
-
 -- ---- a test of each element of a list
 abbrev pub all : {A : Type 0} → (A → Bool) → List A → Bool
 all test [] = true
@@ -44,5 +32,5 @@ all test (a ∷ l) = test a && all test l
 -- it passes at each place, where it passes of what stands past the end
 pub all-at : {A : Type 0} (test : A → Bool) (l : List A) (d : A) → T (test d) → T (all test l) → (i : ℕ) → T (test (getD l i d))
 all-at test [] d p s i = p
-all-at test (a ∷ l) d p s zero = both-left (test a) (all test l) s
-all-at test (a ∷ l) d p s (suc i) = all-at test l d p (both-right (test a) (all test l) s) i
+all-at test (a ∷ l) d p s zero = and-l (test a) (all test l) s
+all-at test (a ∷ l) d p s (suc i) = all-at test l d p (and-r (test a) (all test l) s) i

@@ -1,6 +1,6 @@
--- The kinds by number: Off is 0, the ordered kinds are 1 to 8, Atkinson and Floyd-Steinberg are 9 and 10, and there is none above. What
+-- The kinds by number: the ordered kinds are 1 to 8, Atkinson and Floyd-Steinberg are 9 and 10, and there is none above. What
 -- holds of the ways of the eleven kinds, by a computed test, and where there is none, holds of every number. Assumes nothing.
-use mathlib.Core.Path.{_≡_, refl, sym, ap, _∙_}
+use mathlib.Core.Path.{_≡_, refl, ap, _∙_}
 use mathlib.Core.Bool.{Bool, true, false, not, cond, _&&_, _||_}
 use mathlib.Core.List.{List, [], _∷_, map}
 use Prim.Native.Nat.{ℕ, zero, suc, _≤_, _<_}
@@ -13,7 +13,7 @@ use Rattle.patterns.specs.declared.Dither.{Dither}
 use Rattle.patterns.specs.declared.Dither.the-variants.{Off}
 use Rattle.patterns.specs.declared.Kind.the-variants.{Known, Unknown}
 use Rattle.patterns.specs.Kernel.{atkinson, floydSteinberg}
-use Rattle.patterns.specs.Kinds.{kinds, kindOf, Way, plain, ordered, diffused, none, wayOf, isPlain, hasMatrix, hasKernel, kernelIn, isOff, isOrdered, isDiffusion, kernelOf}
+use Rattle.patterns.specs.Kinds.{kinds, kindOf, Way, plain, ordered, diffused, none, wayOf, hasMatrix, hasKernel, kernelIn, isOrdered, isDiffusion, kernelOf}
 use Rattle.patterns.proofs.Computed.{from, agree}
 
 named : (l : List Dither) (k : ℕ) → k < length l → Known (getD l k Off) ≡ getD (map Known l) k Unknown
@@ -45,10 +45,6 @@ by-number f g e above k = go (ltb k 11) (ltb→lt k 11) (nltb→le k 11)
 pub of-all : (test : Way → Bool) → from (λ k. test (wayOf k)) 0 11 ≡ from (λ k. true) 0 11 → test none ≡ true → (k : ℕ) → T (test (wayOf k))
 of-all test e above k = rw (by-number test (λ k. true) e (λ k h. above) k) tt
 
-pub off-is : (k : ℕ) → isOff k ≡ eqb k 0
-unfolding isOff wayOf kindOf
-off-is k = by-number isPlain (λ k. eqb k 0) refl (λ k h. sym (ne-eqb k 0 (λ e. omega arith))) k
-
 pub ordered-is : (k : ℕ) → isOrdered k ≡ (leb 1 k && leb k 8)
 unfolding isOrdered wayOf kindOf
 ordered-is k = by-number hasMatrix (λ k. leb 1 k && leb k 8) refl (λ k h. simp (le-leb 1 k (omega arith), lt-leb k 8 (omega arith))) k
@@ -61,16 +57,7 @@ pub kernel-is : (k : ℕ) → kernelOf k ≡ cond (eqb k 9) atkinson (cond (eqb 
 unfolding kernelOf wayOf kindOf
 kernel-is k = by-number kernelIn (λ k. cond (eqb k 9) atkinson (cond (eqb k 10) floydSteinberg [])) refl (λ k h. simp (ne-eqb k 9 (λ e. omega arith), ne-eqb k 10 (λ e. omega arith))) k
 
--- ---- the way of a kind that is Off, of one that has a matrix, of one that has a kernel
-pub off-way : (k : ℕ) → T (isOff k) → wayOf k ≡ plain
-unfolding isOff
-off-way k h = go (wayOf k) h
-  where
-    go : (w : Way) → T (isPlain w) → w ≡ plain
-    go plain h = refl
-    go (ordered m n) h = absurd h
-    go (diffused k) h = absurd h
-    go none h = absurd h
+-- the way of a kind that has a matrix
 
 pub ordered-way : (k : ℕ) → T (isOrdered k) → (m : List (List ℕ)) × (n : ℕ) × (wayOf k ≡ ordered m n)
 unfolding isOrdered
@@ -80,14 +67,4 @@ ordered-way k h = go (wayOf k) h
     go plain h = absurd h
     go (ordered m n) h = (m, n, refl)
     go (diffused k) h = absurd h
-    go none h = absurd h
-
-pub diffusion-way : (k : ℕ) → T (isDiffusion k) → wayOf k ≡ diffused (kernelOf k)
-unfolding isDiffusion kernelOf
-diffusion-way k h = go (wayOf k) h
-  where
-    go : (w : Way) → T (hasKernel w) → w ≡ diffused (kernelIn w)
-    go plain h = absurd h
-    go (ordered m n) h = absurd h
-    go (diffused k) h = refl
     go none h = absurd h

@@ -12,6 +12,7 @@ use lib.Dec.{T, eqb, leb, ltb, ltb→lt, lit≤, lit<}
 use lib.IntN.{pos}
 use lib.ListN.{length, getD}
 use lib.Ieee.{Float, binary32, round, add, div, ofInt, ofBits, lt}
+use lib.Ieee.Fits.{and-l, and-r}
 use Rattle.floats.specs.Over.{over, wholef}
 use Rattle.floats.specs.Bounds.{Upto}
 use Rattle.floats.specs.Bytes.{zeroF, oneF}
@@ -20,11 +21,10 @@ use Rattle.floats.proofs.Over.{over-value, ofInt-over, add-over}
 use Rattle.floats.proofs.Sixteenths.{over-scale}
 use Rattle.floats.proofs.Within.{round-upto}
 use Rattle.patterns.specs.declared.Kind.{Kind}
-use Rattle.patterns.specs.declared.Thresholded.{Thresholded}
 use Rattle.patterns.specs.declared.Thresholded.the-variants.{At}
 use Rattle.patterns.specs.Kinds.{kindOf, Way, plain, ordered, diffused, none, wayIn, wayOf, hasMatrix, isOrdered}
 use Rattle.patterns.specs.Thresholds.{share, entry, thresholdIn, thresholdAt, answerIn, thresholdOf, numberOf}
-use Rattle.patterns.proofs.Computed.{all, all-at, both-left, both-right}
+use Rattle.patterns.proofs.Computed.{all, all-at}
 use Rattle.patterns.proofs.Numbers.{by-number, of-all, ordered-way}
 
 -- ---- the literals of the code
@@ -139,14 +139,14 @@ strict-between : (e n : ℕ) → 0 < n → n < 256 → T (strict n e) → Betwee
 unfolding strict
 strict-between e n P N s =
     let t : Float = over (2 * n) (pos (2 * e + 1)) in
-    let inside : e < n = ltb→lt e n (both-left (ltb e n) (lt zeroF t && lt t oneF) s) in
-    let parts = both-right (ltb e n) (lt zeroF t && lt t oneF) s in
+    let inside : e < n = ltb→lt e n (and-l (ltb e n) (lt zeroF t && lt t oneF) s) in
+    let parts = and-r (ltb e n) (lt zeroF t && lt t oneF) s in
     let is : share e (wholef (pos n)) ≡ t = share-is e n (omega arith) P N in
     record {
       entry-below = inside;
       value = is;
-      above-0 = subst (λ (v : Float). T (lt zeroF v)) (sym is) (both-left (lt zeroF t) (lt t oneF) parts);
-      below-1 = subst (λ (v : Float). T (lt v oneF)) (sym is) (both-right (lt zeroF t) (lt t oneF) parts);
+      above-0 = subst (λ (v : Float). T (lt zeroF v)) (sym is) (and-l (lt zeroF t) (lt t oneF) parts);
+      below-1 = subst (λ (v : Float). T (lt v oneF)) (sym is) (and-r (lt zeroF t) (lt t oneF) parts);
       finite = subst (λ (v : Float). Upto 1 v) (sym is) (unfold over in round-upto 1 (2 * e + 1) (2 * n) (omega arith) (lit≤ tt) (omega arith));
     }
 
@@ -154,11 +154,11 @@ pub between : (k x y n : ℕ) (m : List (List ℕ)) → wayOf k ≡ ordered m n 
 unfolding thresholdAt good
 between k x y n m e =
     let g = subst (λ (w : Way). T (good w)) e (goods k) in
-    let sizes = both-left (ltb 0 n && ltb n 256) (strict n 0 && all (all (strict n)) m) g in
-    let entries = both-right (ltb 0 n && ltb n 256) (strict n 0 && all (all (strict n)) m) g in
-    let zero = both-left (strict n 0) (all (all (strict n)) m) entries in
-    let here = all-at (strict n) (getD m (y % length m) []) 0 zero (all-at (all (strict n)) m [] tt (both-right (strict n 0) (all (all (strict n)) m) entries) (y % length m)) (x % length m) in
-    subst (λ (w : Way). Between (entry m x y) n (thresholdIn w x y)) (sym e) (strict-between (entry m x y) n (ltb→lt 0 n (both-left (ltb 0 n) (ltb n 256) sizes)) (ltb→lt n 256 (both-right (ltb 0 n) (ltb n 256) sizes)) here)
+    let sizes = and-l (ltb 0 n && ltb n 256) (strict n 0 && all (all (strict n)) m) g in
+    let entries = and-r (ltb 0 n && ltb n 256) (strict n 0 && all (all (strict n)) m) g in
+    let zero = and-l (strict n 0) (all (all (strict n)) m) entries in
+    let here = all-at (strict n) (getD m (y % length m) []) 0 zero (all-at (all (strict n)) m [] tt (and-r (strict n 0) (all (all (strict n)) m) entries) (y % length m)) (x % length m) in
+    subst (λ (w : Way). Between (entry m x y) n (thresholdIn w x y)) (sym e) (strict-between (entry m x y) n (ltb→lt 0 n (and-l (ltb 0 n) (ltb n 256) sizes)) (ltb→lt n 256 (and-r (ltb 0 n) (ltb n 256) sizes)) here)
 
 pub strictly-between : (k x y : ℕ) → T (isOrdered k) → T (lt zeroF (thresholdAt k x y)) × T (lt (thresholdAt k x y) oneF) × Upto 1 (thresholdAt k x y)
 strictly-between k x y h =

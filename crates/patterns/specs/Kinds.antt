@@ -51,13 +51,6 @@ unfoldable pub wayOf : ℕ → Way
 wayOf k = wayIn (kindOf k)
 
 -- ---- what is asked of a way
--- it is that of Off
-abbrev pub isPlain : Way → Bool
-isPlain plain = true
-isPlain (ordered m n) = false
-isPlain (diffused k) = false
-isPlain none = false
-
 -- it goes by a matrix
 abbrev pub hasMatrix : Way → Bool
 hasMatrix plain = false
@@ -80,10 +73,6 @@ kernelIn (diffused k) = k
 kernelIn none = []
 
 -- ---- the same of a kind's number (which numbers these are: proofs/Numbers)
--- Off
-unfoldable pub isOff : ℕ → Bool
-isOff k = isPlain (wayOf k)
-
 -- the kinds that have a threshold
 unfoldable pub isOrdered : ℕ → Bool
 isOrdered k = hasMatrix (wayOf k)

@@ -13,7 +13,7 @@ use lib.Seq.{length-take-le}
 use lib.Ieee.{Float}
 use Rattle.lists.proofs.Bools.{is-true}
 use Rattle.lists.specs.Lowest.{Lowest, after}
-use Rattle.lists.proofs.LowestLaws.{lowest-is, after-accepted, after-refused}
+use Rattle.lists.proofs.LowestLaws.{lowest-is, after-accepted}
 use Rattle.color.specs.declared.CandidateColor.{CandidateColor}
 use Rattle.color.specs.declared.NormalizedColor.{NormalizedColor}
 use Rattle.color.specs.declared.Oklab.{Oklab}
@@ -46,7 +46,7 @@ use Rattle.records.specs.declared.FoundRecords.{FoundRecords}
 use Rattle.records.specs.declared.FoundRecords.the-variants as both
 use Rattle.records.specs.Lists.{noRecord, recordAt, candidatesOf, rangedTo, recordReplies, numberBy, recordsNumber}
 use Rattle.records.specs.Answers.{recordsAt, foundTwoIn, nearestRecord, nearestTwoRecords, recordsBracket, numberOfRecord, numberOfRecords}
-use Rattle.records.specs.Keeping.{farOf, entryOf, Passed, shortOf, shortRecords, inLine, LaidIn, recordIn, Shortened}
+use Rattle.records.specs.Keeping.{farOf, entryOf, Passed, shortOf, shortRecords, inLine, LaidIn, Roomy, recordIn, Shortened}
 use Rattle.records.proofs.ListLaws.{Accepted, accepted, all-ranged}
 use Rattle.records.proofs.MapLaws.{map-take, map-map, length-map}
 use Rattle.records.proofs.KeepingLaws.{noEntry, nearest-kept}
@@ -98,7 +98,7 @@ module _ (list : List CandidateColor) (color : NormalizedColor) (len : ℕ) (nea
 
   pub nearest-refused : (r ≡ 0 → ⊥) → one.Refused r ≡ nearestRecord list color
   unfolding nearestRecord
-  nearest-refused h = ap one.Refused number ∙ after-refused (recordsNumber list) _ (one.Refused (recordsNumber list)) (λ z. h (number ∙ z))
+  nearest-refused h = Flat.refused one.Refused _ _ _ number h
 
   pub nearest-granted : T (allInRange (toOklab color)) → r ≡ 0 → one.Chosen (getD (near .kept) 0 noEntry .color) ≡ nearestRecord list color
   unfolding nearestRecord
@@ -208,14 +208,18 @@ module _ (list : List CandidateColor) (t : Two) where
   pub records-one : t .second ≡ Nothing → (x : CandidateColor) {x′ : CandidateColor} → x ≡ x′ → x′ ≡ recordAt list (t .first) → both.One x ≡ recordsAt list (t .first) (t .second)
   records-one e x p f = ap both.One (p ∙ f) ∙ ap (recordsAt list (t .first)) (sym e)
 
+-- ---- the fronts of a short list's arrays that its records take
+module _ {s : Short} (R : Roomy s) where
+  pub fits : (4 * s .count ≤ length (s .reduced)) × (4 * s .count ≤ length (s .normalized)) × (3 * s .count ≤ length (s .oklab))
+  fits = (omega arith, omega arith, omega arith)
+
+  pub fronts : (4 * s .count ≡ length (take (4 * s .count) (s .reduced))) × (4 * s .count ≡ length (take (4 * s .count) (s .normalized))) × (3 * s .count ≡ length (take (3 * s .count) (s .oklab)))
+  fronts = (sym (length-take-le _ _ (fits .0)), sym (length-take-le _ _ (fits .1)), sym (length-take-le _ _ (fits .2)))
+
 -- ---- the flat answer over the short list
 abbrev twoOr : Two → FoundTwo → Two
 twoOr u (two.At t) = t
 twoOr u (two.Refused n) = u
-
--- the front of an array
-pub front-long : {A : Type 0} (m : ℕ) (l : List A) → m ≤ length l → m ≡ length (take m l)
-front-long m l h = sym (length-take-le m l h)
 
 -- its positions are entries
 pub two-inside : (rs ns : List ℕ) (os : List Float) (color : NormalizedColor) (width : ℕ) (x : FoundTwo) (t : Two) → x ≡ nearestTwoAnswer rs ns os color width → x ≡ two.At t
@@ -230,54 +234,45 @@ two-inside rs ns os color width x t p q =
     (first-entry cs width (toOklab color) color t s (A .positive), second-entry cs width (toOklab color) color t s (A .positive) (A .ranged .range))
 
 -- of which there are at most 17
-pub two-few : (color : NormalizedColor) (width : ℕ) (s : Short) (x : FoundTwo) (t : Two) → s .count ≤ 17
+pub two-few : (color : NormalizedColor) (width : ℕ) {s : Short} → Roomy s → {x : FoundTwo} {t : Two}
     → x ≡ nearestTwoAnswer (take (4 * s .count) (s .reduced)) (take (4 * s .count) (s .normalized)) (take (3 * s .count) (s .oklab)) color width → x ≡ two.At t
     → (t .first < 17) × ((b : ℕ) → t .second ≡ At b → b < 17)
-two-few color width s x t h p q =
+two-few color width {s} R {x} {t} p q =
     let i = two-inside (take (4 * s .count) (s .reduced)) (take (4 * s .count) (s .normalized)) (take (3 * s .count) (s .oklab)) color width x t p q in
     let l = length-take (4 * s .count) (s .reduced) in
     (omega (arith, i .0, l), λ b e. omega (arith, i .1 b e, l))
 
-module _ (list : List CandidateColor) (color : NormalizedColor) (width : ℕ) (s : Short) (S : Shortened list width color s) where
-  pub two-refused : (s .number ≡ 0 → ⊥) → both.Refused (s .number) ≡ nearestTwoRecords list color width
-  unfolding nearestTwoRecords
-  two-refused h = ap both.Refused (S .number) ∙ after-refused (recordsNumber list) _ (both.Refused (recordsNumber list)) (λ z. h (S .number ∙ z))
+module _ {list : List CandidateColor} {color : NormalizedColor} {width : ℕ} {s : Short} (S : Shortened list width color s) (e : s .number ≡ 0) where
+  z : recordsNumber list ≡ 0
+  z = sym (S .number) ∙ e
 
-  pub bracket-refused : (s .number ≡ 0 → ⊥) → bracket.Refused (s .number) ≡ recordsBracket list color width
-  unfolding recordsBracket
-  bracket-refused h = ap bracket.Refused (S .number) ∙ after-refused (recordsNumber list) _ (bracket.Refused (recordsNumber list)) (λ z. h (S .number ∙ z))
+  L : LaidIn (shortRecords list width color) (s .count) (s .reduced) (s .normalized) (s .oklab)
+  L = S .short z
 
-  module _ (e : s .number ≡ 0) where
-    z : recordsNumber list ≡ 0
-    z = sym (S .number) ∙ e
+  two-from : {x : FoundTwo} → x ≡ nearestTwoAnswer (take (4 * s .count) (s .reduced)) (take (4 * s .count) (s .normalized)) (take (3 * s .count) (s .oklab)) color width
+      → foundTwoIn (shortRecords list width color) x ≡ nearestTwoRecords list color width
+  two-from h =
+      ap (foundTwoIn (shortRecords list width color)) (h ∙ (λ i. nearestTwoAnswer (L .reduced i) (L .normalized i) (L .oklab i) color width))
+      ∙ two-agrees (shortRecords list width color) color width ∙ two-short list color width (accepted list z) (S .range) z
 
-    L : LaidIn (shortRecords list width color) (s .count) (s .reduced) (s .normalized) (s .oklab)
-    L = S .short z
+  pub bracket-from : {x : FoundBracket} → x ≡ bracketAnswer (take (4 * s .count) (s .reduced)) (take (4 * s .count) (s .normalized)) (take (3 * s .count) (s .oklab)) color width → x ≡ recordsBracket list color width
+  bracket-from h =
+      h ∙ (λ i. bracketAnswer (L .reduced i) (L .normalized i) (L .oklab i) color width)
+      ∙ bracket-agrees (shortRecords list width color) color width ∙ bracket-same list color width (accepted list z) (S .range) z
 
-    two-from : (x : FoundTwo) → x ≡ nearestTwoAnswer (take (4 * s .count) (s .reduced)) (take (4 * s .count) (s .normalized)) (take (3 * s .count) (s .oklab)) color width
-        → foundTwoIn (shortRecords list width color) x ≡ nearestTwoRecords list color width
-    two-from x h =
-        ap (foundTwoIn (shortRecords list width color)) (h ∙ (λ i. nearestTwoAnswer (L .reduced i) (L .normalized i) (L .oklab i) color width))
-        ∙ two-agrees (shortRecords list width color) color width ∙ two-short list color width (accepted list z) (S .range) z
+  -- the records at the positions of the flat answer
+  record-from : (k : ℕ) → k < length (take (4 * s .count) (s .reduced)) / 4 → recordIn (s .reduced) (s .normalized) (s .oklab) k ≡ recordAt (shortRecords list width color) k
+  record-from k h = laid-record (shortRecords list width color) L k (omega (arith, length-take (4 * s .count) (s .reduced)))
 
-    pub bracket-from : (x : FoundBracket) → x ≡ bracketAnswer (take (4 * s .count) (s .reduced)) (take (4 * s .count) (s .normalized)) (take (3 * s .count) (s .oklab)) color width → x ≡ recordsBracket list color width
-    bracket-from x h =
-        h ∙ (λ i. bracketAnswer (L .reduced i) (L .normalized i) (L .oklab i) color width)
-        ∙ bracket-agrees (shortRecords list width color) color width ∙ bracket-same list color width (accepted list z) (S .range) z
+  pub two-found : {x : FoundTwo} {t : Two} {r : FoundRecords}
+      → x ≡ nearestTwoAnswer (take (4 * s .count) (s .reduced)) (take (4 * s .count) (s .normalized)) (take (3 * s .count) (s .oklab)) color width → x ≡ two.At t
+      → ((l : List CandidateColor) → recordIn (s .reduced) (s .normalized) (s .oklab) (t .first) ≡ recordAt l (t .first)
+      → ((b : ℕ) → t .second ≡ At b → recordIn (s .reduced) (s .normalized) (s .oklab) b ≡ recordAt l b) → r ≡ recordsAt l (t .first) (t .second))
+      → r ≡ nearestTwoRecords list color width
+  two-found {x} {t} p q h =
+      let i = two-inside (take (4 * s .count) (s .reduced)) (take (4 * s .count) (s .normalized)) (take (3 * s .count) (s .oklab)) color width x t p q in
+      h (shortRecords list width color) (record-from (t .first) (i .0)) (λ b e. record-from b (i .1 b e)) ∙ ap (foundTwoIn (shortRecords list width color)) (sym q) ∙ two-from p
 
-    -- the records at the positions of the flat answer
-    record-from : (k : ℕ) → k < length (take (4 * s .count) (s .reduced)) / 4 → recordIn (s .reduced) (s .normalized) (s .oklab) k ≡ recordAt (shortRecords list width color) k
-    record-from k h = laid-record (shortRecords list width color) L k (omega (arith, length-take (4 * s .count) (s .reduced)))
-
-    pub two-found : (x : FoundTwo) (t : Two) → x ≡ nearestTwoAnswer (take (4 * s .count) (s .reduced)) (take (4 * s .count) (s .normalized)) (take (3 * s .count) (s .oklab)) color width → x ≡ two.At t
-        → (r : FoundRecords)
-        → ((l : List CandidateColor) → recordIn (s .reduced) (s .normalized) (s .oklab) (t .first) ≡ recordAt l (t .first)
-        → ((b : ℕ) → t .second ≡ At b → recordIn (s .reduced) (s .normalized) (s .oklab) b ≡ recordAt l b) → r ≡ recordsAt l (t .first) (t .second))
-        → r ≡ nearestTwoRecords list color width
-    two-found x t p q r h =
-        let i = two-inside (take (4 * s .count) (s .reduced)) (take (4 * s .count) (s .normalized)) (take (3 * s .count) (s .oklab)) color width x t p q in
-        h (shortRecords list width color) (record-from (t .first) (i .0)) (λ b e. record-from b (i .1 b e)) ∙ ap (foundTwoIn (shortRecords list width color)) (sym q) ∙ two-from x p
-
-    pub two-not-found : (x : FoundTwo) (n : ℕ) → x ≡ nearestTwoAnswer (take (4 * s .count) (s .reduced)) (take (4 * s .count) (s .normalized)) (take (3 * s .count) (s .oklab)) color width → x ≡ two.Refused n
-        → both.Refused n ≡ nearestTwoRecords list color width
-    two-not-found x n p q = ap (foundTwoIn (shortRecords list width color)) (sym q) ∙ two-from x p
+  pub two-not-found : {x : FoundTwo} {n : ℕ} → x ≡ nearestTwoAnswer (take (4 * s .count) (s .reduced)) (take (4 * s .count) (s .normalized)) (take (3 * s .count) (s .oklab)) color width → x ≡ two.Refused n
+      → both.Refused n ≡ nearestTwoRecords list color width
+  two-not-found p q = ap (foundTwoIn (shortRecords list width color)) (sym q) ∙ two-from p

@@ -3,7 +3,7 @@
 use mathlib.Core.Path.{_≡_, refl, sym, ap, _∙_}
 use mathlib.Core.Logic.{_⊎_, inl, inr}
 use mathlib.Core.List.{List, [], _∷_, _++_, map}
-use mathlib.Core.Bool.{Bool, true, false, cond, not}
+use mathlib.Core.Bool.{Bool, true, false, cond}
 use Prim.Native.Nat.{ℕ, zero, suc, _+_, _≤_, _<_}
 use native.Mathlib.Nat.{le-of-suc-le-suc, not-suc-le-zero}
 use native.Mathlib.Omega.{arith}
@@ -16,8 +16,8 @@ use Rattle.floats.proofs.Order.{Plain}
 use Rattle.lists.specs.Least.{leastOf}
 use Rattle.lists.specs.Order.{In}
 use Rattle.lists.proofs.Bools.{is-false}
-use Rattle.lists.proofs.LeastLaws.{least-one, least-past, least-inside}
-use Rattle.lists.proofs.OrderLaws.{in-at}
+use Rattle.lists.proofs.LeastLaws.{least-one, least-past, least-inside, least-same}
+use Rattle.lists.proofs.OrderLaws.{in-at, any-default}
 use Rattle.color.specs.declared.ReducedColor.{ReducedColor}
 use Rattle.color.specs.declared.NormalizedColor.{NormalizedColor}
 use Rattle.color.specs.declared.Oklab.{Oklab}
@@ -41,18 +41,6 @@ abbrev pub renamed : (ℕ → ℕ) → Second → Second
 renamed g Nothing = Nothing
 renamed g (At k) = At (g k)
 
-least-same : (d e : ℕ → Float) (n : ℕ) → ((j : ℕ) → j < n → d j ≡ e j) → leastOf lt d n ≡ leastOf lt e n
-unfolding leastOf
-least-same d e zero h = refl
-least-same d e (suc n) h =
-    let same = least-same d e n (λ j l. h j (omega arith)) in
-    let there : d (leastOf lt d n) ≡ e (leastOf lt e n) = h (leastOf lt d n) (below n) ∙ ap e same in
-    λ i. cond (lt (h n (omega arith) i) (there i)) n (same i)
-  where
-    below : (n : ℕ) → leastOf lt d n < suc n
-    below zero = omega arith
-    below (suc m) = omega (arith, least-inside lt d (suc m) (omega arith))
-
 module _ (g : ℕ → ℕ) where
   those-map : (p : ℕ → Bool) (ks : List ℕ) → those p (map g ks) ≡ map g (those (λ k. p (g k)) ks)
   those-map p [] = refl
@@ -70,7 +58,7 @@ module _ (g : ℕ → ℕ) where
       let at : (j : ℕ) → j < n → getD (map g (k ∷ ks)) j 0 ≡ g (getD (k ∷ ks) j 0) = λ j l. getD-map g (k ∷ ks) j 0 0 l in
       let d : ℕ → Float = λ j. e (g (getD (k ∷ ks) j 0)) in
       let same : leastOf lt (λ j. e (getD (map g (k ∷ ks)) j 0)) (length (map g (k ∷ ks))) ≡ leastOf lt d n =
-      ap (leastOf lt (λ j. e (getD (map g (k ∷ ks)) j 0))) long ∙ least-same (λ j. e (getD (map g (k ∷ ks)) j 0)) d n (λ j l. ap e (at j l)) in
+      ap (leastOf lt (λ j. e (getD (map g (k ∷ ks)) j 0))) long ∙ least-same lt (λ j. e (getD (map g (k ∷ ks)) j 0)) d n (λ j l. ap e (at j l)) in
       ap (λ (r : ℕ). getD (map g (k ∷ ks)) r 0) same ∙ at (leastOf lt d n) (least-inside lt d n (omega arith))
 
   second-map : (p : ℕ → Bool) (e : ℕ → Float) (ks : List ℕ) → secondOf p e (map g ks) ≡ renamed g (secondOf (λ k. p (g k)) (λ k. e (g k)) ks)
@@ -133,11 +121,6 @@ ranked-places d m (suc n) h l =
     later e = omega arith
 
 -- ---- the short list of some candidates
-getD-inside : {A : Type 0} (l : List A) (j : ℕ) (x y : A) → j < length l → getD l j x ≡ getD l j y
-getD-inside [] j x y h = absurd (not-suc-le-zero h)
-getD-inside (u ∷ l) zero x y h = refl
-getD-inside (u ∷ l) (suc j) x y h = getD-inside l j x y (le-of-suc-le-suc h)
-
 map-behind : (g : ℕ → ℕ) (xs : List ℕ) (y : ℕ) → map g (xs ++ y ∷ []) ≡ map g xs ++ g y ∷ []
 map-behind g [] y = refl
 map-behind g (x ∷ xs) y = ap (λ (l : List ℕ). g x ∷ l) (map-behind g xs y)
@@ -196,8 +179,8 @@ module _ (cs : Candidates) (width : ℕ) (o : Oklab) (c : NormalizedColor) (posi
   rise (suc i) (suc j) h q l =
       let R = rising-take d (clampWidth width) (ranked d a (cs .count)) (rising d a (cs .count) plain) in
       let low : i < length js = omega arith in
-      ap (λ (k : ℕ). lt (d k) (d (getD js i (cs .count)))) (getD-inside js j (cs .count) 0 l)
-      ∙ ap (λ (k : ℕ). lt (d (getD js j 0)) (d k)) (getD-inside js i (cs .count) 0 low)
+      ap (λ (k : ℕ). lt (d k) (d (getD js i (cs .count)))) (any-default js j (cs .count) 0 l)
+      ∙ ap (λ (k : ℕ). lt (d (getD js j 0)) (d k)) (any-default js i (cs .count) 0 low)
       ∙ is-false (lt (d (getD js j 0)) (d (getD js i 0))) (R .rise i j (le-of-suc-le-suc q) l)
 
   shortlist-few : shortlistOf (distances (few .oklab 0) (few .oklab)) 0 (few .count) width ≡ places (length js)

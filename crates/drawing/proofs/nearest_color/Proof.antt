@@ -4,7 +4,6 @@ use Rattle.color.specs.Oklab.{oklabAt}
 use Rattle.conversion.specs.Oklab.{toOklab}
 use Rattle.shortlist.proofs.NearestLaws.{nearest-inside}
 use Rattle.drawing.proofs.StepLaws.{nearest-is}
-use borrow.Author.Needs.{needs}
 use Rattle.drawing.proofs.nearest_color.Statement.{statement}
 use Rattle.drawing.proofs.nearest_color.Tie as tie
 

@@ -1,8 +1,10 @@
 -- `flat_nearest` meets its contract: the refusal, or the nearest. Assumes nothing.
-use mathlib.Core.Path.{sym, _∙_}
+use mathlib.Core.Path.{sym, ap, _∙_}
 use native.Mathlib.Omega.{arith}
+use Rattle.lookup.specs.Answers.{nearestAnswer}
+use Rattle.lookup.specs.declared.Found.the-variants.{At, Refused}
 use Rattle.lookup.proofs.ListLaws.{accepted}
-use Rattle.lookup.proofs.AnswerLaws.{in-range, nearest-refused, nearest-accepted}
+use Rattle.lookup.proofs.AnswerLaws.{refused, granted, in-range}
 use borrow.Author.Needs.{needs}
 use Rattle.lookup.proofs.flat_nearest.Statement.{statement}
 use Rattle.lookup.proofs.flat_nearest.Tie as tie
@@ -11,10 +13,8 @@ list-refusal-requires : tie.Need-list-refusal-requires
 list-refusal-requires c κs = search needs
 
 returns : tie.Need-returns
-returns c =
-    let a = c .before .before .before .before .before .args in
-    let n = c .before .list-refusal in
-    nearest-refused (a .reduced .now) (a .normalized .now) (a .oklab .now) (a .color) (n .result) (n .ensures) (c .if1 .taken)
+unfolding nearestAnswer
+returns c = refused Refused _ _ _ (c .before .list-refusal .ensures) (c .if1 .taken)
 
 to-oklab-requires : tie.Need-to-oklab-requires
 to-oklab-requires c κs = search needs
@@ -27,12 +27,10 @@ nearest-position-requires c κs =
     (A .ranged, in-range (a .color) (c .to-oklab .result) (c .to-oklab .ensures) (omega arith) (omega arith) (omega arith), A .positive)
 
 returns-2 : tie.Need-returns-2
+unfolding nearestAnswer
 returns-2 c =
-    let a = c .before .before .before .before .before .before .before .args in
-    let n = c .before .before .before .list-refusal in
-    let o = c .before .to-oklab in
-    let r = c .nearest-position in
-    nearest-accepted (a .reduced .now) (a .normalized .now) (a .oklab .now) (a .color) (n .result) (n .ensures) (c .before .before .if1 .left) (o .result) (r .result) (o .ensures) (r .ensures)
+    granted Refused _ _ _ _ (c .before .before .before .list-refusal .ensures) (c .before .before .if1 .left)
+    (rw (← c .before .to-oklab .ensures) (ap At (c .nearest-position .ensures)))
 
 pub flat-nearest-spec : {M : Type 1} → statement M
 flat-nearest-spec =

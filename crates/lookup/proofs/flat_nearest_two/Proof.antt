@@ -1,7 +1,9 @@
 -- `flat_nearest_two` meets its contract: the refusal, or the nearest two. Assumes nothing.
-use mathlib.Core.Path.{sym, _∙_}
+use mathlib.Core.Path.{sym, ap, _∙_}
 use native.Mathlib.Omega.{arith}
-use Rattle.lookup.proofs.AnswerLaws.{in-range, two-refused, two-accepted}
+use Rattle.lookup.specs.Answers.{nearestTwoAnswer}
+use Rattle.lookup.specs.declared.FoundTwo.the-variants.{At, Refused}
+use Rattle.lookup.proofs.AnswerLaws.{refused, granted, in-range}
 use borrow.Author.Needs.{needs}
 use Rattle.lookup.proofs.flat_nearest_two.Statement.{statement}
 use Rattle.lookup.proofs.flat_nearest_two.Tie as tie
@@ -10,10 +12,8 @@ list-refusal-requires : tie.Need-list-refusal-requires
 list-refusal-requires c κs = search needs
 
 returns : tie.Need-returns
-returns c =
-    let a = c .before .before .before .before .before .args in
-    let n = c .before .list-refusal in
-    two-refused (a .reduced .now) (a .normalized .now) (a .oklab .now) (a .color) (n .result) (n .ensures) (a .width) (c .if1 .taken)
+unfolding nearestTwoAnswer
+returns c = refused Refused _ _ _ (c .before .list-refusal .ensures) (c .if1 .taken)
 
 to-oklab-requires : tie.Need-to-oklab-requires
 to-oklab-requires c κs = search needs
@@ -25,12 +25,10 @@ two-of-requires c κs = (
 )
 
 returns-2 : tie.Need-returns-2
+unfolding nearestTwoAnswer
 returns-2 c =
-    let a = c .before .before .before .before .before .before .before .args in
-    let n = c .before .before .before .list-refusal in
-    let o = c .before .to-oklab in
-    let r = c .two-of in
-    two-accepted (a .reduced .now) (a .normalized .now) (a .oklab .now) (a .color) (n .result) (n .ensures) (a .width) (c .before .before .if1 .left) (o .result) (r .result) (o .ensures) (r .ensures)
+    granted Refused _ _ _ _ (c .before .before .before .list-refusal .ensures) (c .before .before .if1 .left)
+    (rw (← c .before .to-oklab .ensures) (ap At (c .two-of .ensures)))
 
 pub flat-nearest-two-spec : {M : Type 1} → statement M
 flat-nearest-two-spec =

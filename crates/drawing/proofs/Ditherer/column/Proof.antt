@@ -10,13 +10,13 @@ cast-result : tie.Need-cast-result
 cast-result c = search needs
 
 rem-result : tie.Need-rem-result
-rem-result c = omega (arith, some-wide (c .before .args .self .width) (c .before .args .self .height) (c .before .args .i) (c .before .pre))
+rem-result c = omega (arith, some-wide _ _ _ (c .before .pre))
 
 cast-result-2 : tie.Need-cast-result-2
-cast-result-2 c = record { fits = omega (arith, column-inside (c .before .args .self .width) (c .before .args .self .height) (c .before .args .i) (c .before .pre)) }
+cast-result-2 c = record { fits = omega (arith, column-inside _ _ _ (c .before .pre)) }
 
 returns : tie.Need-returns
-returns c = (refl, column-inside (c .before .args .self .width) (c .before .args .self .height) (c .before .args .i) (c .before .pre))
+returns c = (refl, column-inside _ _ _ (c .before .pre))
 
 pub column-spec : {M : Type 1} → statement M
 column-spec = tie.close (tie.spec cast-result rem-result cast-result-2 returns)

@@ -10,13 +10,13 @@ cast-result : tie.Need-cast-result
 cast-result c = search needs
 
 div-result : tie.Need-div-result
-div-result c = omega (arith, some-wide (c .before .args .self .width) (c .before .args .self .height) (c .before .args .i) (c .before .pre))
+div-result c = omega (arith, some-wide _ _ _ (c .before .pre))
 
 cast-result-2 : tie.Need-cast-result-2
-cast-result-2 c = record { fits = omega (arith, row-inside (c .before .args .self .width) (c .before .args .self .height) (c .before .args .i) (c .before .pre)) }
+cast-result-2 c = record { fits = omega (arith, row-inside _ _ _ (c .before .pre)) }
 
 returns : tie.Need-returns
-returns c = (refl, row-inside (c .before .args .self .width) (c .before .args .self .height) (c .before .args .i) (c .before .pre))
+returns c = (refl, row-inside _ _ _ (c .before .pre))
 
 pub row-spec : {M : Type 1} → statement M
 row-spec = tie.close (tie.spec cast-result div-result cast-result-2 returns)

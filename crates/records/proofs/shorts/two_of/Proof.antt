@@ -1,13 +1,15 @@
 -- `shorts::two_of` meets its contract: the refusal, or the flat lookup over the short list, and the records at its positions. Assumes nothing.
-use Prim.Native.Nat.{_*_}
-use native.Mathlib.Omega.{arith}
-use Rattle.records.proofs.AnswerLaws.{front-long, two-few, two-refused, two-found, two-not-found}
+use Rattle.lookup.proofs.AnswerLaws.{refused}
+use Rattle.records.specs.Answers.{nearestTwoRecords}
+use Rattle.records.specs.declared.FoundRecords.the-variants.{Refused}
+use Rattle.records.proofs.AnswerLaws.{fits, fronts, two-few, two-found, two-not-found}
 use borrow.Author.Needs.{needs}
 use Rattle.records.proofs.shorts.two_of.Statement.{statement}
 use Rattle.records.proofs.shorts.two_of.Tie as tie
 
 returns : tie.Need-returns
-returns c list S = let a = c .before .args in two-refused list (a .color) (a .width) (a .s) S (c .if1 .taken)
+unfolding nearestTwoRecords
+returns c list S = refused Refused _ _ _ (S .number) (c .if1 .taken)
 
 mul-bytes : tie.Need-mul-bytes
 mul-bytes c = search needs
@@ -16,22 +18,22 @@ mul-floats : tie.Need-mul-floats
 mul-floats c = search needs
 
 array-share-prefix-reduced : tie.Need-array-share-prefix-reduced
-array-share-prefix-reduced c = let p = c .before .before .before .before .before .before .pre in omega (arith, p .few, p .reduced)
+array-share-prefix-reduced c = fits (c .before .before .before .before .before .before .pre) .0
 
 slice-aggregate-flat-nearest-two : tie.Need-slice-aggregate-flat-nearest-two
-slice-aggregate-flat-nearest-two c = let s = c .before .before .before .before .before .before .before in front-long (4 * s .args .s .count) (s .args .s .reduced) (omega (arith, s .pre .few, s .pre .reduced))
+slice-aggregate-flat-nearest-two c = fronts (c .before .before .before .before .before .before .before .pre) .0
 
 array-share-prefix-normalized : tie.Need-array-share-prefix-normalized
-array-share-prefix-normalized c = let p = c .before .before .before .before .before .before .before .pre in omega (arith, p .few, p .normalized)
+array-share-prefix-normalized c = fits (c .before .before .before .before .before .before .before .pre) .1
 
 slice-aggregate-flat-nearest-two-2 : tie.Need-slice-aggregate-flat-nearest-two-2
-slice-aggregate-flat-nearest-two-2 c = let s = c .before .before .before .before .before .before .before .before in front-long (4 * s .args .s .count) (s .args .s .normalized) (omega (arith, s .pre .few, s .pre .normalized))
+slice-aggregate-flat-nearest-two-2 c = fronts (c .before .before .before .before .before .before .before .before .pre) .1
 
 array-share-prefix-oklab : tie.Need-array-share-prefix-oklab
-array-share-prefix-oklab c = let p = c .before .before .before .before .before .before .before .before .pre in omega (arith, p .few, p .oklab)
+array-share-prefix-oklab c = fits (c .before .before .before .before .before .before .before .before .pre) .2
 
 slice-aggregate-flat-nearest-two-3 : tie.Need-slice-aggregate-flat-nearest-two-3
-slice-aggregate-flat-nearest-two-3 c = let s = c .before .before .before .before .before .before .before .before .before in front-long (3 * s .args .s .count) (s .args .s .oklab) (omega (arith, s .pre .few, s .pre .oklab))
+slice-aggregate-flat-nearest-two-3 c = fronts (c .before .before .before .before .before .before .before .before .before .pre) .2
 
 flat-nearest-two-requires : tie.Need-flat-nearest-two-requires
 flat-nearest-two-requires c κs = search needs
@@ -41,28 +43,23 @@ enum-known-two c = search needs
 
 records-in-requires : tie.Need-records-in-requires
 records-in-requires c κs =
-    let s = c .before .before .before .before .before .before .before .before .before .before .before .before .before in
-    let t = c .before .two .given in
-    let f = c .before .before .before .flat-nearest-two in
-    let i = two-few (s .args .color) (s .args .width) (s .args .s) (f .result) (t .0 .0) (s .pre .few) (f .ensures) (t .1) in
-    (s .pre, i .0, i .1)
+    let f = c .before .before .before in
+    let R = f .before .before .before .before .before .before .before .before .before .before .pre in
+    let i = two-few _ _ R (f .flat-nearest-two .ensures) (c .before .two .given .1) in
+    (R, i .0, i .1)
 
 enum-known-n : tie.Need-enum-known-n
 enum-known-n c = search needs
 
 returns-2 : tie.Need-returns-2
 returns-2 c list S =
-    let a = c .before .before .before .before .before .before .before .before .before .before .before .before .before .before .args in
-    let t = c .before .before .two .given in
-    let f = c .before .before .before .before .flat-nearest-two in
-    two-found list (a .color) (a .width) (a .s) S (c .before .before .before .before .before .before .before .before .before .before .before .before .before .if1 .left) (f .result) (t .0 .0) (f .ensures) (t .1) (c .records-in .result) (c .records-in .ensures)
+    let f = c .before .before .before .before in
+    two-found S (f .before .before .before .before .before .before .before .before .before .if1 .left) (f .flat-nearest-two .ensures) (c .before .before .two .given .1) (c .records-in .ensures)
 
 returns-3 : tie.Need-returns-3
 returns-3 c list S =
-    let a = c .before .before .before .before .before .before .before .before .before .before .before .before .before .args in
-    let t = c .before .n .given in
-    let f = c .before .before .before .flat-nearest-two in
-    two-not-found list (a .color) (a .width) (a .s) S (c .before .before .before .before .before .before .before .before .before .before .before .before .if1 .left) (f .result) (t .0 .0) (f .ensures) (t .1)
+    let f = c .before .before .before in
+    two-not-found S (f .before .before .before .before .before .before .before .before .before .if1 .left) (f .flat-nearest-two .ensures) (c .before .n .given .1)
 
 pub two-of-spec : {M : Type 1} → statement M
 two-of-spec =
