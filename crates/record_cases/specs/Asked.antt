@@ -1,4 +1,6 @@
 -- What the three lookups over one list of records answer, side by side. Definitions only.
+-- Written for the replay of recorded answers, from document 01, "Bounds and replies": "The lookups take the caller's list of candidate records and
+-- answer with a copy of the chosen one".
 use Prim.Native.Nat.{ℕ}
 use mathlib.Core.List.{List}
 use Rattle.color.specs.declared.CandidateColor.{CandidateColor}
