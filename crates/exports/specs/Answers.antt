@@ -1,5 +1,6 @@
 -- What the calls on colours and thresholds answer through the C interface and leave behind their pointers: the answer's value on acceptance, and otherwise
--- what was there. Each contract says that the result is the definition that has the call's name. Definitions only.
+-- what was there; the number is the one that the answer's own `numberOf` gives. Each contract says that the result is the definition that has the call's
+-- name. Definitions only.
 -- Written from document 01, "Bounds and replies": "A refusal returns no colour", "all unchanged".
 use Prim.Native.Nat.{ℕ}
 use mathlib.Core.Bool.{not}
@@ -10,13 +11,15 @@ use Rattle.color.specs.declared.Oklab.{Oklab}
 use Rattle.color.specs.declared.Distance.{Distance}
 use Rattle.color.specs.declared.Distance.the-variants.{Squared, Refused}
 use Rattle.color.specs.Color.{rgba}
-use Rattle.color.specs.Oklab.{distanceOf}
+use Rattle.color.specs.Oklab.{distanceOf, numberOf}
 use Rattle.conversion.specs.Oklab.{toOklab}
 use Rattle.patterns.specs.declared.Thresholded.{Thresholded}
 use Rattle.patterns.specs.declared.Thresholded.the-variants as thresholded
+use Rattle.patterns.specs.Thresholds as thresholds
 use Rattle.patterns.specs.Thresholds.{thresholdOf}
 use Rattle.mixing.specs.declared.Width.{Width}
 use Rattle.mixing.specs.declared.Width.the-variants as width
+use Rattle.mixing.specs.Widths as widths
 use Rattle.mixing.specs.Widths.{bracketWidthOf}
 use Rattle.mixing.specs.Lerp.{lerpOf}
 
@@ -38,24 +41,24 @@ badgeToOklab r g b = partsOf (toOklab (opaqueRgb r g b))
 
 -- ---- `badge_oklab_sqdist`: the number, and the distance
 abbrev pub distanceLeft : Float → Distance → ℕ × Float
-distanceLeft was (Squared d) = (0, d)
-distanceLeft was (Refused n) = (n, was)
+distanceLeft was (Squared d) = (numberOf (Squared d), d)
+distanceLeft was (Refused n) = (numberOf (Refused n), was)
 
 abbrev pub badgeOklabSqdist : (l1 a1 b1 l2 a2 b2 was : Float) → ℕ × Float
 badgeOklabSqdist l1 a1 b1 l2 a2 b2 was = distanceLeft was (distanceOf (oklab l1 a1 b1) (oklab l2 a2 b2))
 
 -- ---- `badge_ordered_threshold`: the number, and the threshold
 abbrev pub thresholdLeft : Float → Thresholded → ℕ × Float
-thresholdLeft was (thresholded.At t) = (0, t)
-thresholdLeft was (thresholded.Refused n) = (n, was)
+thresholdLeft was (thresholded.At t) = (thresholds.numberOf (thresholded.At t), t)
+thresholdLeft was (thresholded.Refused n) = (thresholds.numberOf (thresholded.Refused n), was)
 
 abbrev pub badgeOrderedThreshold : (kind x y : ℕ) → Float → ℕ × Float
 badgeOrderedThreshold kind x y was = thresholdLeft was (thresholdOf kind x y)
 
 -- ---- `badge_bracket_width`: the number, and the width
 abbrev pub widthLeft : ℕ → Width → ℕ × ℕ
-widthLeft was (width.Of w) = (0, w)
-widthLeft was (width.Refused n) = (n, was)
+widthLeft was (width.Of w) = (widths.numberOf (width.Of w), w)
+widthLeft was (width.Refused n) = (widths.numberOf (width.Refused n), was)
 
 abbrev pub badgeBracketWidth : (shift max was : ℕ) → ℕ × ℕ
 badgeBracketWidth shift max was = widthLeft was (bracketWidthOf shift max)

@@ -1,5 +1,6 @@
 -- What the lookups and `pick` answer through the C interface and leave behind their pointers and in their buffers: the answer's on acceptance, and
--- otherwise what was there. Each contract says that the result is the definition that has the call's name. Definitions only.
+-- otherwise what was there; the number is the one that the answer's own definition gives (`numberOf` and the three beside it). Each contract says
+-- that the result is the definition that has the call's name. Definitions only.
 -- Written from document 01, "Bounds and replies": "The lowest number that applies is given", "A refusal returns no colour", "all unchanged".
 use Prim.Native.Nat.{ℕ, _/_}
 use mathlib.Core.List.{List, [], _∷_}
@@ -15,7 +16,7 @@ use Rattle.patterns.specs.Thresholds.{thresholdAt}
 use Rattle.shortlist.specs.Candidates.{flat}
 use Rattle.lookup.specs.Lists.{lengthsFit, countFits, firstOutside}
 use Rattle.lookup.specs.Bracket.{bracketOf, pickAt}
-use Rattle.lookup.specs.Answers.{nearestAnswer, nearestTwoAnswer}
+use Rattle.lookup.specs.Answers.{nearestAnswer, nearestTwoAnswer, numberOf, numberOfTwo, numberOfBracket, numberOfPicked}
 use Rattle.lookup.specs.declared.Found.{Found}
 use Rattle.lookup.specs.declared.Found.the-variants as found
 use Rattle.lookup.specs.declared.Two.{Two}
@@ -31,8 +32,8 @@ use Rattle.exports.specs.Answers.{opaqueRgb}
 
 -- ---- `badge_nearest`: the number, and the position
 abbrev pub foundLeft : ℕ → Found → ℕ × ℕ
-foundLeft was (found.At k) = (0, k)
-foundLeft was (found.Refused n) = (n, was)
+foundLeft was (found.At k) = (numberOf (found.At k), k)
+foundLeft was (found.Refused n) = (numberOf (found.Refused n), was)
 
 -- of a colour of three bytes; alpha plays no part
 abbrev pub badgeNearest : (reduced normalized : List ℕ) → List Float → (r g b was : ℕ) → ℕ × ℕ
@@ -49,8 +50,8 @@ abbrev pub secondOf : Two → ℕ
 secondOf t = secondOr (t .second) (t .first)
 
 abbrev pub twoLeft : (first second : ℕ) → FoundTwo → ℕ × ℕ × ℕ
-twoLeft first second (two.At t) = (0, t .first, secondOf t)
-twoLeft first second (two.Refused n) = (n, first, second)
+twoLeft first second (two.At t) = (numberOfTwo (two.At t), t .first, secondOf t)
+twoLeft first second (two.Refused n) = (numberOfTwo (two.Refused n), first, second)
 
 abbrev pub badgeNearestTwo : (reduced normalized : List ℕ) → List Float → (r g b width first second : ℕ) → ℕ × ℕ × ℕ
 badgeNearestTwo reduced normalized oklab r g b width first second = twoLeft first second (nearestTwoAnswer reduced normalized oklab (opaqueRgb r g b) width)
@@ -75,8 +76,8 @@ bracketRgb reduced normalized oklab r g b width dark light =
     after n (bracket.Of (bracketOf (flat reduced normalized oklab) width (toOklab (opaqueRgb r g b)) (opaqueRgb r g b))) (bracket.Refused n)
 
 abbrev pub bracketLeft : (dark light : List ℕ) → Float → FoundBracket → ℕ × List ℕ × List ℕ × Float
-bracketLeft dark light ratio (bracket.Of b) = (0, bytesOf (b .dark .0), bytesOf (b .light .0), b .ratio)
-bracketLeft dark light ratio (bracket.Refused n) = (n, dark, light, ratio)
+bracketLeft dark light ratio (bracket.Of b) = (numberOfBracket (bracket.Of b), bytesOf (b .dark .0), bytesOf (b .light .0), b .ratio)
+bracketLeft dark light ratio (bracket.Refused n) = (numberOfBracket (bracket.Refused n), dark, light, ratio)
 
 abbrev pub badgeOrderedBracket : (reduced normalized : List ℕ) → List Float → (r g b width : ℕ) → (dark light : List ℕ) → Float → ℕ × List ℕ × List ℕ × Float
 badgeOrderedBracket reduced normalized oklab r g b width dark light ratio = bracketLeft dark light ratio (bracketRgb reduced normalized oklab r g b width dark light)
@@ -97,8 +98,8 @@ pickRooms dark light ratio kind x y chosen =
     after n (picked.Color (pickAt (record { dark = reducedAt dark 0; light = reducedAt light 0; ratio = ratio }) (thresholdAt kind x y))) (picked.Refused n)
 
 abbrev pub pickedLeft : List ℕ → Picked → ℕ × List ℕ
-pickedLeft was (picked.Color c) = (0, bytesOf (c .0))
-pickedLeft was (picked.Refused n) = (n, was)
+pickedLeft was (picked.Color c) = (numberOfPicked (picked.Color c), bytesOf (c .0))
+pickedLeft was (picked.Refused n) = (numberOfPicked (picked.Refused n), was)
 
 abbrev pub badgePick : (dark light : List ℕ) → Float → (kind x y : ℕ) → List ℕ → ℕ × List ℕ
 badgePick dark light ratio kind x y chosen = pickedLeft chosen (pickRooms dark light ratio kind x y chosen)

@@ -58,11 +58,6 @@ module _ (opaque : ℕ → Bool) (color : ℕ → ReducedColor) (w h tw th : ℕ
   JudgedAs limit Fits = (t : ℕ) → t < tileCount w h tw th → T (not (isOver limit t))
   JudgedAs limit (Over t) = (t < tileCount w h tw th) × T (isOver limit t) × ((k : ℕ) → k < t → T (not (isOver limit k)))
 
--- document 01's number of an answer
-abbrev pub numberOf : Judged → ℕ
-numberOf Fits = 0
-numberOf (Over t) = 8
-
 -- what `judge` asks of its caller: whole buffers, and the bounds of sides and limit
 pub record Judgeable (reduced pixels : List ℕ) (w h tw th limit : ℕ) : Type 0 where
   pub chosen : length reduced ≡ 4 * (w * h)
