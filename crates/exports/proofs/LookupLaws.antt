@@ -3,7 +3,7 @@
 use mathlib.Core.Path.{_≡_, refl, sym, ap, _∙_, subst}
 use mathlib.Core.List.{List, [], _∷_}
 use mathlib.Core.Bool.{Bool, true, false, cond, not, _&&_}
-use Prim.Native.Nat.{ℕ, zero, suc, _/_, _≤_, _<_}
+use Prim.Native.Nat.{ℕ, _/_, _≤_, _<_}
 use native.Mathlib.Omega.{arith}
 use borrow.Author.Tests.{eqb-true, lt-ltb, le-ltb, le-leb, not-false}
 use lib.Dec.{eqb, ltb}
@@ -47,7 +47,7 @@ use Rattle.lookup.specs.declared.Picked.{Picked}
 use Rattle.lookup.specs.declared.Picked.the-variants as picked
 use Rattle.lookup.proofs.ListLaws.{accepted}
 use Rattle.lookup.proofs.TwoLaws.{first-inside, second-inside}
-use Rattle.lookup.proofs.AnswerLaws.{nearest-number, nearest-two-number, nearest-accepted, two-accepted}
+use Rattle.lookup.proofs.AnswerLaws.{numbered, nearest-number, nearest-two-number, nearest-accepted, two-accepted}
 use Rattle.exports.specs.Answers.{opaqueRgb}
 use Rattle.exports.specs.Lookups.{foundLeft, secondOr, secondOf, twoLeft, isFour, bracketReplies, bracketRgb, bracketLeft, badgeOrderedBracket, pickReplies, pickRooms, pickedLeft, badgePick}
 
@@ -169,10 +169,6 @@ module _ (dark light : List ℕ) (ratio : Float) (kind x y : ℕ) (chosen : List
     pick-is e d l D L p q a b = pick-four e ∙ (λ i. pickOf (record { dark = sym D i; light = sym L i; ratio = ratio }) kind x y) ∙ sym a ∙ b
 
 -- ---- the numbers are the lowest that apply
-numbered : {A : Type 0} (refusal : ℕ → A) (number : A → ℕ) (n : ℕ) (result : A) → number result ≡ 0 → ((m : ℕ) → number (refusal m) ≡ m) → number (after n result (refusal n)) ≡ n
-numbered refusal number zero result e h = e
-numbered refusal number (suc n) result e h = h (suc n)
-
 pub bracket-lowest : (reduced normalized : List ℕ) (oklab : List Float) (r g b width : ℕ) (dark light : List ℕ) (ratio : Float)
     → Lowest (bracketReplies reduced normalized oklab dark light) (badgeOrderedBracket reduced normalized oklab r g b width dark light ratio .0)
 unfolding bracketRgb
