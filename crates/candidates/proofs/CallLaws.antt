@@ -10,10 +10,11 @@ use borrow.Author.Tests.{ltb-false, ne-eqb}
 use lib.Dec.{ltb, eqb}
 use lib.Ieee.{Float}
 use lib.ListN.{length, replicate}
-use Rattle.lists.specs.Lowest.{Reply, _if_, lowest, Lowest, after}
-use Rattle.lists.specs.Unique.{Unique}
+use Rattle.replies.specs.Replies.{Reply, _if_, firstReply, Lowest, after, NoneApplies}
+use Rattle.replies.specs.Unique.{Unique}
 use Rattle.lists.proofs.Bools.{or-split, equals}
-use Rattle.lists.proofs.LowestLaws.{NoneApplies, lowest-zero, lowest-none, lowest-at, lowest-front, lowest-upto, lowest-is, after-refused}
+use Rattle.replies.proofs.ReplyLaws.{reply-zero, reply-none, reply-at, reply-front, reply-upto, after-refused}
+use Rattle.replies.proofs.LowestLaws.{lowest-is}
 use Rattle.picture.specs.Bounds.{tableWrong}
 use Rattle.picture.proofs.BoundLaws.{sized}
 use Rattle.candidates.specs.Rooms.{placesWith, oklabWith, tooMany, Collects}
@@ -40,10 +41,10 @@ pub record Ready (n : ℕ) (lent : Lengths) : Type 0 where
   pub places : lent .places ≤ 262144
   pub oklab : lent .oklab ≡ 3 * (lent .places / 4)
 
-pub accepted : (shift width height : ℕ) (lent : Lengths) → lowest (checks shift width height lent) ≡ 0 → Ready (width * height) lent
+pub accepted : (shift width height : ℕ) (lent : Lengths) → firstReply (checks shift width height lent) ≡ 0 → Ready (width * height) lent
 unfolding lengthsWrong tableWrong
 accepted shift width height lent e =
-    let none = lowest-none (checks shift width height lent) tt e in
+    let none = reply-none (checks shift width height lent) tt e in
     let a = or-split (tableWrong (lent .reduction)) _ (none .1 .1 .0) in
     let b = or-split (tableWrong (lent .scale)) _ (a .1) in
     let d = or-split (not (eqb (lent .pixels) (4 * (width * height)))) _ (b .1) in
@@ -71,7 +72,7 @@ module _ (x : Lent) where
   seven = 7 if tooMany (candidatesIn x) (x .places)
 
   -- by the number
-  call-is : {r : CandidateCount} {places : List ℕ} {oklab : List Float} (n : ℕ) → lowest (replies x) ≡ n → numberOf r ≡ n → r ≡ answerOf n x → places ≡ placesAfter n x → oklab ≡ oklabAfter n x
+  call-is : {r : CandidateCount} {places : List ℕ} {oklab : List Float} (n : ℕ) → firstReply (replies x) ≡ n → numberOf r ≡ n → r ≡ answerOf n x → places ≡ placesAfter n x → oklab ≡ oklabAfter n x
       → CandidateColors x r places oklab
   call-is n l number answer bytes floats = record {
     number = number ∙ sym l;
@@ -80,9 +81,9 @@ module _ (x : Lent) where
     floats = floats ∙ ap (λ (m : ℕ). oklabAfter m x) (sym l);
   }
 
-  pub call-refused : {r : ℕ} → r ≡ lowest (checks (x .shift) (x .width) (x .height) (lengthsOf x)) → (r ≡ 0 → ⊥) → CandidateColors x (Refused r) (x .places) (x .oklab)
+  pub call-refused : {r : ℕ} → r ≡ firstReply (checks (x .shift) (x .width) (x .height) (lengthsOf x)) → (r ≡ 0 → ⊥) → CandidateColors x (Refused r) (x .places) (x .oklab)
   call-refused {r} e n =
-      call-is r (lowest-front before (seven ∷ []) (λ z. n (e ∙ z)) ∙ sym e) refl (refused r n)
+      call-is r (reply-front before (seven ∷ []) (λ z. n (e ∙ z)) ∙ sym e) refl (refused r n)
       (after-refused r (placesWith (candidatesIn x) (x .places)) (x .places) n
       ∙ ap (λ (b : Bool). cond b (replicate (length (x .places)) 0) (after r (placesWith (candidatesIn x) (x .places)) (x .places))) (sym (ne-eqb r 7 not-seven)))
       (after-refused r (oklabWith (x .scale) (candidatesIn x) (x .oklab)) (x .oklab) n)
@@ -92,14 +93,14 @@ module _ (x : Lent) where
       refused (suc r) n = refl
 
       not-seven : r ≡ 7 → ⊥
-      not-seven q = omega (arith, e, lowest-upto 3 before tt)
+      not-seven q = omega (arith, e, reply-upto 3 before tt)
 
-  pub call-collected : lowest (checks (x .shift) (x .width) (x .height) (lengthsOf x)) ≡ 0 → {r s : Collected} {places : List ℕ} {oklab : List Float}
+  pub call-collected : firstReply (checks (x .shift) (x .width) (x .height) (lengthsOf x)) ≡ 0 → {r s : Collected} {places : List ℕ} {oklab : List Float}
       → Collects (candidatesIn x) (x .scale) (x .places) (x .oklab) s places oklab → s ≡ r → CandidateColors x (answer-from r) places oklab
   call-collected free {r} {s} {places} {oklab} p same = go (tooMany (candidatesIn x) (x .places)) refl
     where
       none : NoneApplies before
-      none = lowest-none before tt free
+      none = reply-none before tt free
 
       answer : {t : Bool} → tooMany (candidatesIn x) (x .places) ≡ t → r ≡ cond t collected.TooMany (collected.Count (length (candidatesIn x)))
       answer t = sym same ∙ p .answer ∙ ap (λ (b : Bool). cond b collected.TooMany (collected.Count (length (candidatesIn x)))) t
@@ -111,9 +112,9 @@ module _ (x : Lent) where
       floats t = p .floats ∙ ap (λ (b : Bool). cond b (x .oklab) (oklabWith (x .scale) (candidatesIn x) (x .oklab))) t
 
       go : (t : Bool) → tooMany (candidatesIn x) (x .places) ≡ t → CandidateColors x (answer-from r) places oklab
-      go true t = call-is 7 (lowest-at before seven [] none t) (ap (λ (q : Collected). numberOf (answer-from q)) (answer t)) (ap answer-from (answer t)) (bytes t) (floats t)
+      go true t = call-is 7 (reply-at before seven [] none t) (ap (λ (q : Collected). numberOf (answer-from q)) (answer t)) (ap answer-from (answer t)) (bytes t) (floats t)
       go false t =
-          call-is 0 (lowest-zero (replies x) (none .0, (none .1 .0, (none .1 .1 .0, (t, tt))))) (ap (λ (q : Collected). numberOf (answer-from q)) (answer t)) (ap answer-from (answer t)) (bytes t) (floats t)
+          call-is 0 (reply-zero (replies x) (none .0, (none .1 .0, (none .1 .1 .0, (t, tt))))) (ap (λ (q : Collected). numberOf (answer-from q)) (answer t)) (ap answer-from (answer t)) (bytes t) (floats t)
 
   -- ---- the number, and one result
   pub number-is : {r : CandidateCount} {places : List ℕ} {oklab : List Float} → CandidateColors x r places oklab → Lowest (replies x) (numberOf r)

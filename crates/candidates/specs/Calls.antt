@@ -9,7 +9,7 @@ use lib.Dec.{ltb, eqb}
 use lib.Ieee.{Float}
 use lib.ListN.{length, replicate}
 use Rattle.color.specs.declared.ReducedColor.{ReducedColor}
-use Rattle.lists.specs.Lowest.{Reply, _if_, lowest, after}
+use Rattle.replies.specs.Replies.{Reply, _if_, firstReply, after}
 use Rattle.mixing.specs.Widths.{isShift}
 use Rattle.picture.specs.Bounds.{sizeWrong, tableWrong}
 use Rattle.candidates.specs.Candidates.{candidatesOf}
@@ -73,7 +73,7 @@ oklabAfter r x = after r (oklabWith (x .scale) (candidatesIn x) (x .oklab)) (x .
 
 -- what `candidate_colors_in` promises: the answer, with the lowest number that applies, and both rooms afterwards
 pub record CandidateColors (x : Lent) (r : CandidateCount) (places : List ℕ) (oklab : List Float) : Type 0 where
-  pub number : numberOf r ≡ lowest (replies x)
-  pub answer : r ≡ answerOf (lowest (replies x)) x
-  pub bytes : places ≡ placesAfter (lowest (replies x)) x
-  pub floats : oklab ≡ oklabAfter (lowest (replies x)) x
+  pub number : numberOf r ≡ firstReply (replies x)
+  pub answer : r ≡ answerOf (firstReply (replies x)) x
+  pub bytes : places ≡ placesAfter (firstReply (replies x)) x
+  pub floats : oklab ≡ oklabAfter (firstReply (replies x)) x

@@ -1,8 +1,8 @@
 -- The public calls of `color` leave one answer each. Assumes nothing.
 use mathlib.Core.Path.{_≡_}
 use mathlib.Core.Bool.{Bool}
-use Rattle.lists.specs.Unique.{Unique}
-use Rattle.lists.proofs.UniqueLaws.{equal-only}
+use Rattle.replies.specs.Unique.{Unique}
+use Rattle.replies.proofs.UniqueLaws.{equal-only}
 use Rattle.color.specs.declared.ReducedColor.{ReducedColor}
 use Rattle.color.specs.declared.Oklab.{Oklab}
 use Rattle.color.specs.declared.Distance.{Distance}

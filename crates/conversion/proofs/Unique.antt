@@ -1,7 +1,7 @@
 -- The public call of `conversion` leaves one answer. Assumes nothing.
 use mathlib.Core.Path.{_≡_}
-use Rattle.lists.specs.Unique.{Unique}
-use Rattle.lists.proofs.UniqueLaws.{equal-only}
+use Rattle.replies.specs.Unique.{Unique}
+use Rattle.replies.proofs.UniqueLaws.{equal-only}
 use Rattle.color.specs.declared.NormalizedColor.{NormalizedColor}
 use Rattle.color.specs.declared.Oklab.{Oklab}
 use Rattle.conversion.specs.Oklab.{toOklab}

@@ -6,8 +6,8 @@ use mathlib.Core.List.{[], _∷_, _++_}
 use Prim.Native.Nat.{ℕ, _*_, _<_}
 use native.Mathlib.Omega.{arith}
 use lib.ListN.{length}
-use Rattle.lists.specs.Lowest.{_if_, lowest}
-use Rattle.lists.proofs.LowestLaws.{lowest-none, lowest-at}
+use Rattle.replies.specs.Replies.{_if_, firstReply}
+use Rattle.replies.proofs.ReplyLaws.{reply-none, reply-at}
 use Rattle.mixing.specs.Widths.{modeWrong}
 use Rattle.candidates.specs.Rooms.{tooMany}
 use Rattle.dither.specs.declared.Dithered.{Dithered}
@@ -44,7 +44,7 @@ module _ {q : Order} {was then : Buffers} {r : Dithered} (p : DitheredToMode q w
       let f = tile-first q (eight n) in
       (rw t (f .0), rw t (f .1), rw t (f .2), c)
 
-  pub over-answered : lowest (checks (q .settings) (lengthsOf q was)) ≡ 0 → tooMany (candidateList q) (was .places) ≡ false → (t : ℕ) → t < tiles (q .settings) → Outnumbers q t
+  pub over-answered : firstReply (checks (q .settings) (lengthsOf q was)) ≡ 0 → tooMany (candidateList q) (was .places) ≡ false → (t : ℕ) → t < tiles (q .settings) → Outnumbers q t
       → r ≡ Over (tileOver q) (length (candidateList q))
   unfolding answerOf numberFor
   over-answered free fits t h m = p .answer ∙ ap (λ (n : ℕ). answerOf n q) number
@@ -52,5 +52,5 @@ module _ {q : Order} {was then : Buffers} {r : Dithered} (p : DitheredToMode q w
       number : numberFor q was ≡ 8
       number =
           let before = checks (q .settings) (lengthsOf q was) in
-          let none = lowest-none before tt free in
-          lowest-at (before ++ 7 if tooMany (candidateList q) (was .places) ∷ []) (8 if overBudget q) [] (none .0, (none .1 .0, (none .1 .1 .0, (none .1 .1 .1 .0, (fits, tt))))) (over-if q t h m)
+          let none = reply-none before tt free in
+          reply-at (before ++ 7 if tooMany (candidateList q) (was .places) ∷ []) (8 if overBudget q) [] (none .0, (none .1 .0, (none .1 .1 .0, (none .1 .1 .1 .0, (fits, tt))))) (over-if q t h m)

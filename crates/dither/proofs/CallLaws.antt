@@ -8,9 +8,9 @@ use native.Mathlib.Omega.{arith}
 use borrow.Author.Tests.{ne-eqb}
 use lib.ListN.{length, replicate}
 use lib.Ieee.{Float, ofBits, binary32}
-use Rattle.lists.specs.Lowest as lowest
-use Rattle.lists.specs.Lowest.{_if_, lowest, after}
-use Rattle.lists.proofs.LowestLaws.{NoneApplies, lowest-zero, lowest-none, lowest-at, lowest-front, lowest-upto, after-refused}
+use Rattle.replies.specs.Replies as reply
+use Rattle.replies.specs.Replies.{_if_, firstReply, after, NoneApplies}
+use Rattle.replies.proofs.ReplyLaws.{reply-zero, reply-none, reply-at, reply-front, reply-upto, after-refused}
 use Rattle.drawing.specs.Lent.{cellsAfter}
 use Rattle.candidates.specs.Rooms.{placesWith, oklabWith, tooMany}
 use Rattle.dither.specs.declared.Dithered.{Dithered}
@@ -29,13 +29,13 @@ module _ (q : Order) {out₀ : List ℕ} {cells₀ : List Float} {count : ℕ} (
 
 -- ---- the answers, by their number
 module _ (q : Order) (was : Buffers) where
-  abbrev before : List lowest.Reply
+  abbrev before : List reply.Reply
   before = checks (q .settings) (lengthsOf q was)
 
-  abbrev seven : lowest.Reply
+  abbrev seven : reply.Reply
   seven = 7 if tooMany (candidateList q) (was .places)
 
-  abbrev eight : lowest.Reply
+  abbrev eight : reply.Reply
   eight = 8 if overBudget q
 
   -- what is answered and left with number n
@@ -58,24 +58,24 @@ module _ (q : Order) (was : Buffers) where
   unfolding answerOf
   refused-as n some ne = rw (ne-eqb n 0 some, ne-eqb n 8 ne)
 
-  pub call-refused : {n : ℕ} → n ≡ lowest (checks (q .settings) (lengthsOf q was)) → (n ≡ 0 → ⊥) → DitheredToMode q was (Refused n) was
+  pub call-refused : {n : ℕ} → n ≡ firstReply (checks (q .settings) (lengthsOf q was)) → (n ≡ 0 → ⊥) → DitheredToMode q was (Refused n) was
   unfolding numberFor placesAfter oklabAfter outAfter cellsLeft
   call-refused {n} e some =
-      let few = lowest-upto 5 before tt in
+      let few = reply-upto 5 before tt in
       let not-seven : n ≡ 7 → ⊥ = λ z. omega (arith, few, e) in
       let not-eight : n ≡ 8 → ⊥ = λ z. omega (arith, few, e) in
-      call-is n (lowest-front before (seven ∷ eight ∷ []) (λ z. some (e ∙ z)) ∙ sym e) refl (refused-as n some not-eight) (rw (ne-eqb n 7 not-seven) (unchanged n _ _ (was .places) some not-eight)) (unchanged n _ _ (was .oklab) some not-eight)
+      call-is n (reply-front before (seven ∷ eight ∷ []) (λ z. some (e ∙ z)) ∙ sym e) refl (refused-as n some not-eight) (rw (ne-eqb n 7 not-seven) (unchanged n _ _ (was .places) some not-eight)) (unchanged n _ _ (was .oklab) some not-eight)
       (unchanged n _ _ (was .out) some not-eight) (unchanged n _ _ (was .cells) some not-eight)
 
   -- where no check refuses
-  module _ (free : lowest (checks (q .settings) (lengthsOf q was)) ≡ 0) where
+  module _ (free : firstReply (checks (q .settings) (lengthsOf q was)) ≡ 0) where
     none : NoneApplies before
-    none = lowest-none before tt free
+    none = reply-none before tt free
 
     pub call-full : {places : List ℕ} {oklab : List Float} → tooMany (candidateList q) (was .places) ≡ true → places ≡ replicate (length (was .places)) 0 → oklab ≡ was .oklab
         → DitheredToMode q was (Refused 7) (buffers places oklab (was .out) (was .cells))
     unfolding numberFor answerOf placesAfter oklabAfter outAfter cellsLeft
-    call-full t p o = call-is 7 (lowest-at before seven (eight ∷ []) none t) refl refl p o refl refl
+    call-full t p o = call-is 7 (reply-at before seven (eight ∷ []) none t) refl refl p o refl refl
 
     pub call-completed : {r : Dithered} {places out : List ℕ} {oklab cells : List Float} → tooMany (candidateList q) (was .places) ≡ false → places ≡ placesWith (candidateList q) (was .places)
         → oklab ≡ oklabWith (q .scale) (candidateList q) (was .oklab) → Completes q (was .out) (was .cells) r out cells → DitheredToMode q was r (buffers places oklab out cells)
@@ -84,5 +84,5 @@ module _ (q : Order) (was : Buffers) where
       where
         go : (b : Bool) → overBudget q ≡ b → r ≡ cond b (Over (tileOver q) (length (candidateList q))) (Count (length (candidateList q))) → out ≡ cond b (replicate (length (was .out)) 0) (pixelsOf q)
             → cells ≡ cond b (replicate (length (was .cells)) (ofBits binary32 0)) (cellsAfter (dithering q) (was .cells)) → DitheredToMode q was r (buffers places oklab out cells)
-        go true b a x y = call-is 8 (lowest-at (before ++ seven ∷ []) eight [] (none .0, (none .1 .0, (none .1 .1 .0, (none .1 .1 .1 .0, (t, tt))))) b) (ap numberOf a) a p o x y
-        go false b a x y = call-is 0 (lowest-zero (replies q was) (none .0, (none .1 .0, (none .1 .1 .0, (none .1 .1 .1 .0, (t, (b, tt))))))) (ap numberOf a) a p o x y
+        go true b a x y = call-is 8 (reply-at (before ++ seven ∷ []) eight [] (none .0, (none .1 .0, (none .1 .1 .0, (none .1 .1 .1 .0, (t, tt))))) b) (ap numberOf a) a p o x y
+        go false b a x y = call-is 0 (reply-zero (replies q was) (none .0, (none .1 .0, (none .1 .1 .0, (none .1 .1 .1 .0, (t, (b, tt))))))) (ap numberOf a) a p o x y

@@ -7,9 +7,10 @@ use native.Mathlib.Omega.{arith}
 use borrow.Author.Tests.{ltb-false, eqb-false, not-false}
 use lib.Dec.{eqb, ltb}
 use lib.ListN.{length}
-use Rattle.lists.specs.Lowest.{Lowest, lowest}
+use Rattle.replies.specs.Replies.{Lowest, firstReply}
 use Rattle.lists.proofs.Bools.{or-split, equals}
-use Rattle.lists.proofs.LowestLaws.{lowest-none, lowest-is}
+use Rattle.replies.proofs.ReplyLaws.{reply-none}
+use Rattle.replies.proofs.LowestLaws.{lowest-is}
 use Rattle.picture.specs.Bounds.{sizeWrong, originWrong, tableWrong, sideWrong}
 use Rattle.picture.proofs.BoundLaws.{sized}
 use Rattle.patterns.specs.Kinds.{cellsNeeded}
@@ -36,14 +37,14 @@ side n e =
     let h = eqb-false n 0 (a .0) in
     (omega arith, ltb-false 4096 n (a .1))
 
-module _ (q : Order) (b : Buffers) (e : lowest (checks (q .settings) (lengthsOf q b)) ≡ 0) where
+module _ (q : Order) (b : Buffers) (e : firstReply (checks (q .settings) (lengthsOf q b)) ≡ 0) where
   pub accepted : Fitting q (b .out) (b .cells)
   unfolding modeWrong boundsWrong lengthsWrong budgetWrong originWrong tableWrong cellsNeeded
   accepted =
       let s = q .settings in
       let l = lengthsOf q b in
       let n = size q in
-      let none = lowest-none (checks s l) tt e in
+      let none = reply-none (checks s l) tt e in
       let mode = or-split (ltb 10 (s .kind)) _ (none .0) in
       let b1 = or-split (sizeWrong (s .width) (s .height)) _ (none .1 .0) in
       let b2 = or-split (originWrong (s .«origin_x») (s .width)) _ (b1 .1) in
@@ -82,7 +83,7 @@ module _ (q : Order) (b : Buffers) (e : lowest (checks (q .settings) (lengthsOf 
   unfolding lengthsWrong
   room =
       let l = lengthsOf q b in
-      let none = lowest-none (checks (q .settings) l) tt e in
+      let none = reply-none (checks (q .settings) l) tt e in
       let l1 = or-split (tableWrong (l .reduction)) _ (none .1 .1 .0) in
       let l2 = or-split (tableWrong (l .scale)) _ (l1 .1) in
       let l3 = or-split (not (eqb (l .pixels) (4 * size q))) _ (l2 .1) in

@@ -1,6 +1,6 @@
 -- The promise of `dither_to_mode` leaves one result: one answer, and one content of each buffer. Assumes nothing.
 use mathlib.Core.Path.{sym, _∙_}
-use Rattle.lists.specs.Unique.{Unique}
+use Rattle.replies.specs.Unique.{Unique}
 use Rattle.dither.specs.declared.Dithered.{Dithered}
 use Rattle.dither.specs.Mode.{Order, Buffers, buffers, DitheredToMode}
 

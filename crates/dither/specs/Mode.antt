@@ -10,8 +10,8 @@ use lib.Dec.{eqb, ltb}
 use lib.ListN.{length, replicate}
 use lib.Ieee.{Float, ofBits, binary32}
 use Rattle.lists.specs.Gather.{gather}
-use Rattle.lists.specs.Lowest as lowest
-use Rattle.lists.specs.Lowest.{_if_, lowest, after}
+use Rattle.replies.specs.Replies as reply
+use Rattle.replies.specs.Replies.{_if_, firstReply, after}
 use Rattle.color.specs.declared.ReducedColor.{ReducedColor}
 use Rattle.color.specs.declared.NormalizedColor.{NormalizedColor}
 use Rattle.color.specs.Color.{bytesOf, transparentNormalized}
@@ -146,16 +146,16 @@ unfoldable pub budgetWrong : Settings → Bool
 budgetWrong s = sideWrong (s .«tile_width») || (sideWrong (s .«tile_height») || ltb 256 (s .limit))
 
 -- the rows of document 01's table that need no look at a pixel, and all that this call can answer with
-abbrev pub checks : Settings → Lengths → List lowest.Reply
+abbrev pub checks : Settings → Lengths → List reply.Reply
 checks s lengths =
     1 if modeWrong (s .kind) (s .shift) ∷ 2 if boundsWrong s ∷ 3 if lengthsWrong (s .kind) (s .width * s .height) lengths ∷ 5 if budgetWrong s ∷ []
 
-abbrev pub replies : Order → Buffers → List lowest.Reply
+abbrev pub replies : Order → Buffers → List reply.Reply
 replies q b = checks (q .settings) (lengthsOf q b) ++ 7 if tooMany (candidateList q) (b .places) ∷ 8 if overBudget q ∷ []
 
 -- the lowest number that applies, 0 where the picture is accepted (proofs/NumberLaws)
 unfoldable pub numberFor : Order → Buffers → ℕ
-numberFor q b = lowest (replies q b)
+numberFor q b = firstReply (replies q b)
 
 -- ---- the promise
 

@@ -11,7 +11,7 @@ ghost use mathlib.Core.Path.{_≡_};
 ghost use Prim.Native.Nat.{_*_, _≤_};
 ghost use lib.ListN.{length, replicate};
 ghost use lib.Ieee.{ofBits, binary32};
-ghost use Rattle.lists.specs.Lowest.{lowest};
+ghost use Rattle.replies.specs.Replies.{firstReply};
 ghost use Rattle.drawing.specs.Lent.{reducedBytes, cellsAfter};
 ghost use Rattle.dither.specs.Mode.{order, buffers, dithering, finished, boundsWrong, lengthsWrong, budgetWrong, checks, DitheredToMode};
 ghost use Rattle.dither.specs.Steps.{Fitting, Roomed, Finishable, finishedBytes, Completes};
@@ -81,7 +81,7 @@ fn budget_wrong(s: Settings) -> bool
 
 // The number of the refusals that need no look at a pixel: 0 where there is none, else the lowest that applies.
 fn refusal(s: Settings, lengths: Lengths) -> u8
-    ensures { λ n. ⌜ n ≡ lowest (checks s lengths) ⌝ }
+    ensures { λ n. ⌜ n ≡ firstReply (checks s lengths) ⌝ }
 {
     if mixing::mode_wrong(s.kind, s.shift) {
         return 1;

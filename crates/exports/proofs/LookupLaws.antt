@@ -10,9 +10,9 @@ use lib.Dec.{eqb, ltb}
 use lib.ListN.{length}
 use lib.Seq.{sets}
 use lib.Ieee.{Float}
-use Rattle.lists.specs.Lowest.{lowest, Lowest, after}
+use Rattle.replies.specs.Replies.{firstReply, Lowest, after}
 use Rattle.lists.proofs.Bools.{holds, and-split}
-use Rattle.lists.proofs.LowestLaws.{lowest-is}
+use Rattle.replies.proofs.LowestLaws.{lowest-is}
 use Rattle.color.specs.declared.Rgba8888.{Rgba8888}
 use Rattle.color.specs.declared.NormalizedColor.{NormalizedColor}
 use Rattle.color.specs.declared.ReducedColor.{ReducedColor}
@@ -174,10 +174,10 @@ pub bracket-lowest : (reduced normalized : List ℕ) (oklab : List Float) (r g b
 unfolding bracketRgb
 bracket-lowest reduced normalized oklab r g b width dark light ratio =
     let replies = bracketReplies reduced normalized oklab dark light in
-    subst (Lowest replies) (sym (numbered bracket.Refused (λ (x : FoundBracket). bracketLeft dark light ratio x .0) (lowest replies) _ refl (λ m. refl))) (lowest-is replies tt)
+    subst (Lowest replies) (sym (numbered bracket.Refused (λ (x : FoundBracket). bracketLeft dark light ratio x .0) (firstReply replies) _ refl (λ m. refl))) (lowest-is replies tt)
 
 pub pick-lowest : (dark light : List ℕ) (ratio : Float) (kind x y : ℕ) (chosen : List ℕ) → Lowest (pickReplies dark light kind chosen) (badgePick dark light ratio kind x y chosen .0)
 unfolding pickRooms
 pick-lowest dark light ratio kind x y chosen =
     let replies = pickReplies dark light kind chosen in
-    subst (Lowest replies) (sym (numbered picked.Refused (λ (x : Picked). pickedLeft chosen x .0) (lowest replies) _ refl (λ m. refl))) (lowest-is replies tt)
+    subst (Lowest replies) (sym (numbered picked.Refused (λ (x : Picked). pickedLeft chosen x .0) (firstReply replies) _ refl (λ m. refl))) (lowest-is replies tt)

@@ -8,7 +8,7 @@ use borrow.Author.Tests.{ne-eqb, eqb-true}
 use lib.Dec.{eqb}
 use lib.Ieee.{Float}
 use lib.ListN.{length}
-use Rattle.lists.specs.Lowest.{lowest, after}
+use Rattle.replies.specs.Replies.{firstReply, after}
 use Rattle.candidates.specs.declared.CandidateCount.{CandidateCount}
 use Rattle.candidates.specs.declared.CandidateCount.the-variants as counted
 use Rattle.candidates.specs.Calls.{Lent, candidatesIn, replies, answerOf, CandidateColors}
@@ -30,7 +30,7 @@ counting places oklab was (counted.Refused n) = (n, places, oklab, was)
 -- where the answer r is the case y
 pub candidates-by-case : (x : Lent) (was : ℕ) {r y : CandidateCount} {places : List ℕ} {oklab : List Float} → CandidateColors x r places oklab → r ≡ y
     → counting places oklab was y ≡ badgeCandidateColorsIn x was
-candidates-by-case x was h e = (λ i. counting (h .bytes i) (h .floats i) was ((sym e ∙ h .answer) i)) ∙ by-number (lowest (replies x)) _ _
+candidates-by-case x was h e = (λ i. counting (h .bytes i) (h .floats i) was ((sym e ∙ h .answer) i)) ∙ by-number (firstReply (replies x)) _ _
   where
     by-number : (n : ℕ) (bytes : List ℕ) (floats : List Float) → counting bytes floats was (answerOf n x) ≡ (n, bytes, floats, after n (length (candidatesIn x)) was)
     by-number zero bytes floats = refl

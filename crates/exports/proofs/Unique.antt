@@ -3,8 +3,8 @@ use mathlib.Core.Path.{_≡_}
 use mathlib.Core.List.{List}
 use Prim.Native.Nat.{ℕ}
 use lib.Ieee.{Float}
-use Rattle.lists.specs.Unique.{Unique}
-use Rattle.lists.proofs.UniqueLaws.{equal-only}
+use Rattle.replies.specs.Unique.{Unique}
+use Rattle.replies.proofs.UniqueLaws.{equal-only}
 use Rattle.candidates.specs.Calls.{Lent}
 use Rattle.quantize.specs.Quantize.{Order}
 use Rattle.dither.specs.Mode as mode

@@ -8,7 +8,7 @@ use mathlib.Core.Bool.{Bool, not, _&&_}
 use lib.Dec.{eqb, ltb}
 use lib.ListN.{length}
 use lib.Ieee.{Float}
-use Rattle.lists.specs.Lowest.{Reply, _if_, lowest, after}
+use Rattle.replies.specs.Replies.{Reply, _if_, firstReply, after}
 use Rattle.color.specs.Color.{reducedAt, bytesOf}
 use Rattle.conversion.specs.Oklab.{toOklab}
 use Rattle.patterns.specs.Kinds.{isOrdered}
@@ -72,7 +72,7 @@ bracketReplies reduced normalized oklab dark light =
 -- what is answered for a colour of three bytes and rooms for dark and light
 unfoldable pub bracketRgb : List ℕ → List ℕ → List Float → ℕ → ℕ → ℕ → ℕ → List ℕ → List ℕ → FoundBracket
 bracketRgb reduced normalized oklab r g b width dark light =
-    let n = lowest (bracketReplies reduced normalized oklab dark light) in
+    let n = firstReply (bracketReplies reduced normalized oklab dark light) in
     after n (bracket.Of (bracketOf (flat reduced normalized oklab) width (toOklab (opaqueRgb r g b)) (opaqueRgb r g b))) (bracket.Refused n)
 
 abbrev pub bracketLeft : (dark light : List ℕ) → Float → FoundBracket → ℕ × List ℕ × List ℕ × Float
@@ -94,7 +94,7 @@ pickReplies dark light kind chosen =
 -- what is answered for dark and light as bytes, and a room for the chosen colour
 unfoldable pub pickRooms : List ℕ → List ℕ → Float → ℕ → ℕ → ℕ → List ℕ → Picked
 pickRooms dark light ratio kind x y chosen =
-    let n = lowest (pickReplies dark light kind chosen) in
+    let n = firstReply (pickReplies dark light kind chosen) in
     after n (picked.Color (pickAt (record { dark = reducedAt dark 0; light = reducedAt light 0; ratio = ratio }) (thresholdAt kind x y))) (picked.Refused n)
 
 abbrev pub pickedLeft : List ℕ → Picked → ℕ × List ℕ

@@ -7,7 +7,7 @@ use mathlib.Core.List.{List}
 use lib.Dec.{eqb}
 use lib.Ieee.{Float}
 use lib.ListN.{length}
-use Rattle.lists.specs.Lowest.{lowest, after}
+use Rattle.replies.specs.Replies.{firstReply, after}
 use Rattle.candidates.specs.Calls.{Lent, candidatesIn, replies, placesAfter, oklabAfter}
 use Rattle.color.specs.Color.{rgba}
 use Rattle.drawing.specs.declared.ColorZero.{ColorZero}
@@ -26,7 +26,7 @@ lentTo shift width height reduction scale pixels places oklab =
 
 abbrev pub badgeCandidateColorsIn : Lent → ℕ → ℕ × List ℕ × List Float × ℕ
 badgeCandidateColorsIn x count =
-    let n = lowest (replies x) in
+    let n = firstReply (replies x) in
     (n, placesAfter n x, oklabAfter n x, after n (length (candidatesIn x)) count)
 
 -- ---- `badge_quantize_pixels`: the number, the indices, the picture and the cells

@@ -11,7 +11,7 @@ use borrow.Author.Tests.{ltb-true, ltb-false}
 use lib.Dec.{T, T-not, ltb, ltb→lt, lt→ltb}
 use lib.ListN.{length}
 use Rattle.lists.specs.First.{firstThat, First}
-use Rattle.lists.specs.Unique.{Unique}
+use Rattle.replies.specs.Unique.{Unique}
 use Rattle.lists.proofs.FirstLaws.{first-is, first-only}
 use Rattle.color.specs.declared.ReducedColor.{ReducedColor}
 use Rattle.color.specs.Color.{sameReduced}

@@ -7,5 +7,3 @@ pub mod LeastLaws
 pub mod OrderLaws
 pub mod DifferentLaws
 pub mod SlideLaws
-pub mod LowestLaws
-pub mod UniqueLaws

@@ -7,8 +7,9 @@ use lib.Dec.{T}
 use lib.ListN.{length}
 use lib.Ieee.{Float, lt}
 use Rattle.lists.specs.Least.{Least}
-use Rattle.lists.specs.Lowest.{Lowest, after}
-use Rattle.lists.proofs.LowestLaws.{lowest-is, after-accepted, after-refused}
+use Rattle.replies.specs.Replies.{Lowest, after}
+use Rattle.replies.proofs.ReplyLaws.{after-accepted, after-refused}
+use Rattle.replies.proofs.LowestLaws.{lowest-is}
 use Rattle.color.specs.declared.NormalizedColor.{NormalizedColor}
 use Rattle.color.specs.declared.Oklab.{Oklab}
 use Rattle.color.specs.Oklab.{allInRange, oklabAt}

@@ -17,7 +17,7 @@ use lib.Ieee.Fits.{and-i}
 use Rattle.lists.specs.First.{firstThat}
 use Rattle.lists.proofs.Bools.{and-split}
 use Rattle.lists.proofs.FirstLaws.{first-is}
-use Rattle.lists.proofs.LowestLaws.{lowest-none}
+use Rattle.replies.proofs.ReplyLaws.{reply-none}
 use Rattle.color.specs.declared.NormalizedColor.{NormalizedColor}
 use Rattle.color.specs.declared.Oklab.{Oklab}
 use Rattle.color.specs.Color.{reducedAt, normalizedAt, rgbaAt}
@@ -64,7 +64,7 @@ inside xs e k h =
 pub accepted : (reduced normalized : List ℕ) (oklab : List Float) → listNumber reduced normalized oklab ≡ 0 → Accepted reduced normalized oklab
 unfolding listNumber allInRange oklabAt
 accepted reduced normalized oklab e =
-    let a = lowest-none (listReplies reduced normalized oklab) tt e in
+    let a = reply-none (listReplies reduced normalized oklab) tt e in
     let l = fitting (length reduced) (length normalized) (length oklab) (not-false (lengthsFit (length reduced) (length normalized) (length oklab)) (a .0)) in
     let n = counted (length reduced / 4) (not-false (countFits (length reduced / 4)) (a .1 .0)) in
     let c = inside oklab (a .1 .1 .0) in

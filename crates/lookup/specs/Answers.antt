@@ -3,7 +3,7 @@
 use Prim.Native.Nat.{ℕ}
 use mathlib.Core.List.{List}
 use lib.Ieee.{Float}
-use Rattle.lists.specs.Lowest.{after}
+use Rattle.replies.specs.Replies.{after}
 use Rattle.color.specs.declared.NormalizedColor.{NormalizedColor}
 use Rattle.conversion.specs.Oklab.{toOklab}
 use Rattle.shortlist.specs.Candidates.{flat}

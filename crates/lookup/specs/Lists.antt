@@ -7,7 +7,7 @@ use lib.Dec.{eqb, ltb}
 use lib.ListN.{length, getD}
 use lib.Ieee.{Float, nan}
 use Rattle.lists.specs.First.{firstThat}
-use Rattle.lists.specs.Lowest.{_if_, Reply, lowest}
+use Rattle.replies.specs.Replies.{_if_, Reply, firstReply}
 use Rattle.color.specs.Oklab.{inRange}
 
 -- reduced and normalised bytes are as many, four an entry, and Oklab floats three an entry
@@ -32,7 +32,7 @@ listReplies reduced normalized oklab =
 
 -- the number of a list: 0 where it is accepted
 unfoldable pub listNumber : List ℕ → List ℕ → List Float → ℕ
-listNumber reduced normalized oklab = lowest (listReplies reduced normalized oklab)
+listNumber reduced normalized oklab = firstReply (listReplies reduced normalized oklab)
 
 -- ---- bytes that stand for themselves
 

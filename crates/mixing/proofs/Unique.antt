@@ -3,8 +3,8 @@ use mathlib.Core.Path.{_≡_}
 use mathlib.Core.Bool.{Bool}
 use Prim.Native.Nat.{ℕ}
 use lib.Ieee.{Float}
-use Rattle.lists.specs.Unique.{Unique}
-use Rattle.lists.proofs.UniqueLaws.{equal-only}
+use Rattle.replies.specs.Unique.{Unique}
+use Rattle.replies.proofs.UniqueLaws.{equal-only}
 use Rattle.color.specs.declared.NormalizedColor.{NormalizedColor}
 use Rattle.mixing.specs.declared.Width.{Width}
 use Rattle.mixing.specs.Lerp.{lerpOf}

@@ -1,4 +1,4 @@
--- The kinds by number: the ordered kinds are 1 to 8, Atkinson and Floyd-Steinberg are 9 and 10, and there is none above. What
+-- The kinds by number: they are 0 to 10, the ordered kinds are 1 to 8, Atkinson and Floyd-Steinberg are 9 and 10, and there is none above. What
 -- holds of the ways of the eleven kinds, by a computed test, and where there is none, holds of every number. Assumes nothing.
 use mathlib.Core.Path.{_≡_, refl, ap, _∙_}
 use mathlib.Core.Bool.{Bool, true, false, not, cond, _&&_, _||_}
@@ -13,7 +13,7 @@ use Rattle.patterns.specs.declared.Dither.{Dither}
 use Rattle.patterns.specs.declared.Dither.the-variants.{Off}
 use Rattle.patterns.specs.declared.Kind.the-variants.{Known, Unknown}
 use Rattle.patterns.specs.Kernel.{atkinson, floydSteinberg}
-use Rattle.patterns.specs.Kinds.{kinds, kindOf, Way, plain, ordered, diffused, none, wayOf, hasMatrix, hasKernel, kernelIn, isOrdered, isDiffusion, kernelOf}
+use Rattle.patterns.specs.Kinds.{kinds, kindOf, Way, plain, ordered, diffused, none, wayOf, isWay, hasMatrix, hasKernel, kernelIn, isKind, isOrdered, isDiffusion, kernelOf}
 use Rattle.patterns.proofs.Computed.{from, agree}
 
 named : (l : List Dither) (k : ℕ) → k < length l → Known (getD l k Off) ≡ getD (map Known l) k Unknown
@@ -44,6 +44,10 @@ by-number f g e above k = go (ltb k 11) (ltb→lt k 11) (nltb→le k 11)
 -- what holds of each kind's way, and of none, holds of every number's
 pub of-all : (test : Way → Bool) → from (λ k. test (wayOf k)) 0 11 ≡ from (λ k. true) 0 11 → test none ≡ true → (k : ℕ) → T (test (wayOf k))
 of-all test e above k = rw (by-number test (λ k. true) e (λ k h. above) k) tt
+
+pub kind-is : (k : ℕ) → isKind k ≡ leb k 10
+unfolding isKind wayOf kindOf
+kind-is k = by-number isWay (λ k. leb k 10) refl (λ k h. simp (lt-leb k 10 h)) k
 
 pub ordered-is : (k : ℕ) → isOrdered k ≡ (leb 1 k && leb k 8)
 unfolding isOrdered wayOf kindOf

@@ -51,6 +51,13 @@ unfoldable pub wayOf : ℕ → Way
 wayOf k = wayIn (kindOf k)
 
 -- ---- what is asked of a way
+-- there is one
+abbrev pub isWay : Way → Bool
+isWay plain = true
+isWay (ordered m n) = true
+isWay (diffused k) = true
+isWay none = false
+
 -- it goes by a matrix
 abbrev pub hasMatrix : Way → Bool
 hasMatrix plain = false
@@ -73,6 +80,10 @@ kernelIn (diffused k) = k
 kernelIn none = []
 
 -- ---- the same of a kind's number (which numbers these are: proofs/Numbers)
+-- there is a kind with the number; 1 is said where there is none
+unfoldable pub isKind : ℕ → Bool
+isKind k = isWay (wayOf k)
+
 -- the kinds that have a threshold
 unfoldable pub isOrdered : ℕ → Bool
 isOrdered k = hasMatrix (wayOf k)

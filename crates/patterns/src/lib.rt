@@ -4,7 +4,7 @@ ghost use mathlib.Core.Path.{_≡_};
 ghost use Prim.Native.Nat.{_≤_};
 ghost use lib.Dec.{T};
 ghost use Rattle.patterns.specs.Kernel.{Arrays, atkinson, floydSteinberg};
-ghost use Rattle.patterns.specs.Kinds.{kindOf, isOrdered, isDiffusion, cellsNeeded};
+ghost use Rattle.patterns.specs.Kinds.{kindOf, isKind, isOrdered, isDiffusion, cellsNeeded};
 ghost use Rattle.patterns.specs.Thresholds.{share, entryIn, thresholdAt, thresholdOf};
 
 // A kind of dithering.
@@ -62,6 +62,13 @@ pub fn dither_of(kind: u32) -> Kind
         return Kind::Known(KINDS[kind as usize]);
     }
     Kind::Unknown
+}
+
+// Whether there is a kind with this number.
+pub fn is_kind(kind: u32) -> bool
+    ensures { λ r. ⌜ r ≡ isKind kind ⌝ }
+{
+    kind <= 10
 }
 
 // Whether a kind dithers by a matrix: from Bayer2x2 to LineH.

@@ -1,17 +1,28 @@
 -- The colours of pixel i of a picture, whose bytes are lent four a pixel. Definitions only.
 -- Written from document 01, "Which document decides", and section "Choosing colours".
 use Prim.Native.Nat.{ℕ}
-use mathlib.Core.Bool.{Bool}
+use mathlib.Core.Bool.{Bool, not}
 use mathlib.Core.List.{List}
 use lib.Dec.{leb}
 use Rattle.color.specs.declared.NormalizedColor.{NormalizedColor}
 use Rattle.color.specs.declared.ReducedColor.{ReducedColor}
-use Rattle.color.specs.Color.{normalizedAt}
+use Rattle.color.specs.Color.{normalizedAt, isTransparent}
 use Rattle.color.specs.Tables.{reduceColor}
 
 -- as it was lent
 abbrev pub sourceAt : List ℕ → ℕ → NormalizedColor
 sourceAt pixels i = normalizedAt pixels i
+
+-- ---- how a pixel reduces. What is above `picture` speaks of `reduced : ℕ → ReducedColor`, a picture's reduced colours by the pixel, and of "transparent"
+-- by these alone
+
+-- by alpha, through the reduction table
+unfoldable pub reducedBy : List ℕ → List ℕ → ℕ → ReducedColor
+reducedBy reduction pixels i = reduceColor reduction (sourceAt pixels i)
+
+-- pixel i is not transparent
+unfoldable pub isSeen : (ℕ → ReducedColor) → ℕ → Bool
+isSeen reduced i = not (isTransparent (reduced i .0))
 
 -- reduced through the reduction table
 unfoldable pub pixelAt : List ℕ → List ℕ → ℕ → ReducedColor

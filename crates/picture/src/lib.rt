@@ -3,7 +3,7 @@ ghost use mathlib.Core.Path.{_≡_};
 ghost use Prim.Native.Nat.{_+_, _*_, _<_, _≤_};
 ghost use lib.ListN.{length};
 ghost use Rattle.picture.specs.Bounds.{sizeWrong, originWrong, tableWrong, sideWrong};
-ghost use Rattle.picture.specs.Pixels.{sourceAt, pixelAt, isOpaque};
+ghost use Rattle.picture.specs.Pixels.{sourceAt, reducedBy, isSeen, pixelAt, isOpaque};
 use color::NormalizedColor;
 use color::ReducedColor;
 
@@ -41,6 +41,22 @@ pub fn source_at(pixels: &[u8], i: usize) -> NormalizedColor
     ensures { λ c. ⌜ c ≡ sourceAt (now (pixels .entry)) i ⌝ }
 {
     NormalizedColor(color::rgba_at(pixels, i))
+}
+
+// Pixel i reduced: the one function that reduces a picture's pixels. No public call: the caller sees to the lengths.
+pub fn reduced_at(reduction: &[u8], pixels: &[u8], i: usize) -> ReducedColor
+    requires { ⌜ (length (now reduction) ≡ 256) × (4 * i + 3 < length (now pixels)) ⌝ }
+    ensures { λ c. ⌜ c ≡ reducedBy (now (reduction .entry)) (now (pixels .entry)) i ⌝ }
+{
+    color::reduce_color(reduction, source_at(pixels, i))
+}
+
+// Whether pixel i is not transparent. No public call: the caller sees to the lengths.
+pub fn is_seen(reduction: &[u8], pixels: &[u8], i: usize) -> bool
+    requires { ⌜ (length (now reduction) ≡ 256) × (4 * i + 3 < length (now pixels)) ⌝ }
+    ensures { λ t. ⌜ t ≡ isSeen (reducedBy (now (reduction .entry)) (now (pixels .entry))) i ⌝ }
+{
+    !reduced_at(reduction, pixels, i).is_transparent()
 }
 
 // Pixel i reduced. No public call: the caller sees to the lengths.

@@ -6,9 +6,10 @@ use Prim.Native.Nat.{ℕ, zero, suc, _*_, _/_, _%_, _<_}
 use native.Mathlib.Omega.{arith}
 use borrow.Author.Tests.{ltb-false, eqb-false, not-false}
 use lib.Dec.{eqb, ltb}
-use Rattle.lists.specs.Lowest.{Lowest}
+use Rattle.replies.specs.Replies.{Lowest}
 use Rattle.lists.proofs.Bools.{or-split, equals}
-use Rattle.lists.proofs.LowestLaws.{lowest-none, lowest-is}
+use Rattle.replies.proofs.ReplyLaws.{reply-none}
+use Rattle.replies.proofs.LowestLaws.{lowest-is}
 use Rattle.picture.specs.Bounds.{tableWrong}
 use Rattle.picture.proofs.BoundLaws.{sized}
 use Rattle.patterns.specs.Kinds.{cellsNeeded}
@@ -35,7 +36,7 @@ pub accepted : (q : Order) (s : Lengths) → numberFor (q .shift) (q .kind) (q .
 unfolding numberFor modeWrong lengthsWrong entriesWrong tableWrong cellsNeeded
 accepted q s e =
     let n = size q in
-    let none = lowest-none (table (q .shift) (q .kind) (q .width) (q .height) s) tt e in
+    let none = reply-none (table (q .shift) (q .kind) (q .width) (q .height) s) tt e in
     let mode = or-split (ltb 10 (q .kind)) _ (none .0) in
     let bounds = sized (q .width) (q .height) (none .1 .0) in
     let l1 = or-split (tableWrong (s .reduction)) _ (none .1 .1 .0) in

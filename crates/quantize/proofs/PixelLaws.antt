@@ -8,7 +8,7 @@ use native.Mathlib.Nat.{one-mul, add-zero}
 use lib.Dec.{lit<}
 use lib.ListN.{getD}
 use lib.Ieee.{Float}
-use Rattle.lists.specs.Lowest.{after}
+use Rattle.replies.specs.Replies.{after}
 use Rattle.lists.proofs.GatherLaws.{gather-at}
 use Rattle.color.specs.Color.{normalizedAt, bytesOf, transparentNormalized}
 use Rattle.color.specs.Tables.{normalizeColor}

@@ -3,8 +3,8 @@ use mathlib.Core.Path.{_≡_, sym, _∙_, ap}
 use mathlib.Core.List.{List}
 use Prim.Native.Nat.{ℕ}
 use lib.Ieee.{Float}
-use Rattle.lists.specs.Lowest.{after}
-use Rattle.lists.specs.Unique.{Unique}
+use Rattle.replies.specs.Replies.{after}
+use Rattle.replies.specs.Unique.{Unique}
 use Rattle.drawing.specs.Lent.{cellsAfter}
 use Rattle.quantize.specs.declared.Reply.{Reply}
 use Rattle.quantize.specs.Quantize.{Order, quantizing, indicesOf, pixelsOf, numberOf, Quantized}

@@ -10,8 +10,8 @@ use lib.ListN.{length}
 use lib.Ieee.{Float}
 use Rattle.lists.specs.Gather.{gather}
 use Rattle.lists.specs.First.{firstThat}
-use Rattle.lists.specs.Lowest as lowest
-use Rattle.lists.specs.Lowest.{_if_, lowest, after}
+use Rattle.replies.specs.Replies as reply
+use Rattle.replies.specs.Replies.{_if_, firstReply, after}
 use Rattle.color.specs.declared.ReducedColor.{ReducedColor}
 use Rattle.color.specs.declared.NormalizedColor.{NormalizedColor}
 use Rattle.color.specs.Color.{reducedAt, sameReduced, bytesOf, transparentNormalized}
@@ -137,7 +137,7 @@ unfoldable pub entriesWrong : ℕ → Bool
 entriesWrong n = eqb n 0 || ltb 256 n
 
 -- the rows of document 01's table that this call can answer with
-abbrev pub table : (shift kind width height : ℕ) → Lengths → List lowest.Reply
+abbrev pub table : (shift kind width height : ℕ) → Lengths → List reply.Reply
 table shift kind width height s =
     1 if modeWrong kind shift
     ∷ 2 if sizeWrong width height
@@ -147,7 +147,7 @@ table shift kind width height s =
 
 -- the lowest number that applies, 0 where the picture is accepted (proofs/FittingLaws)
 unfoldable pub numberFor : (shift kind width height : ℕ) → Lengths → ℕ
-numberFor shift kind width height s = lowest (table shift kind width height s)
+numberFor shift kind width height s = firstReply (table shift kind width height s)
 
 -- the answer with a number
 abbrev pub replyOf : ℕ → Reply

@@ -3,7 +3,7 @@
 use mathlib.Core.Path.{_≡_, refl, _∙_}
 use mathlib.Core.List.{List}
 use Prim.Native.Nat.{ℕ, zero, suc}
-use Rattle.lists.specs.Lowest.{after}
+use Rattle.replies.specs.Replies.{after}
 use Rattle.color.specs.declared.CandidateColor.{CandidateColor}
 use Rattle.color.specs.declared.NormalizedColor.{NormalizedColor}
 use Rattle.conversion.specs.Oklab.{toOklab}

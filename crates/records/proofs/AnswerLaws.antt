@@ -12,8 +12,9 @@ use lib.ListN.{length, getD, take, length-take, List·getD-eq-default, List·get
 use lib.Seq.{length-take-le}
 use lib.Ieee.{Float}
 use Rattle.lists.proofs.Bools.{is-true}
-use Rattle.lists.specs.Lowest.{Lowest, after}
-use Rattle.lists.proofs.LowestLaws.{lowest-is, after-accepted}
+use Rattle.replies.specs.Replies.{Lowest, after}
+use Rattle.replies.proofs.ReplyLaws.{after-accepted}
+use Rattle.replies.proofs.LowestLaws.{lowest-is}
 use Rattle.color.specs.declared.CandidateColor.{CandidateColor}
 use Rattle.color.specs.declared.NormalizedColor.{NormalizedColor}
 use Rattle.color.specs.declared.Oklab.{Oklab}

@@ -2,8 +2,8 @@
 use mathlib.Core.Path.{_≡_}
 use mathlib.Core.List.{List}
 use Prim.Native.Nat.{ℕ}
-use Rattle.lists.specs.Unique.{Unique}
-use Rattle.lists.proofs.UniqueLaws.{equal-only}
+use Rattle.replies.specs.Unique.{Unique}
+use Rattle.replies.proofs.UniqueLaws.{equal-only}
 use Rattle.color.specs.declared.CandidateColor.{CandidateColor}
 use Rattle.color.specs.declared.NormalizedColor.{NormalizedColor}
 use Rattle.lookup.specs.declared.FoundBracket.{FoundBracket}

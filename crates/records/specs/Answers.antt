@@ -3,7 +3,7 @@
 -- "A refusal returns no colour."; and "Choosing colours": "With one candidate there is no second."
 use Prim.Native.Nat.{ℕ}
 use mathlib.Core.List.{List}
-use Rattle.lists.specs.Lowest.{after}
+use Rattle.replies.specs.Replies.{after}
 use Rattle.color.specs.declared.CandidateColor.{CandidateColor}
 use Rattle.color.specs.declared.NormalizedColor.{NormalizedColor}
 use Rattle.conversion.specs.Oklab.{toOklab}

@@ -6,7 +6,7 @@ use mathlib.Core.Bool.{Bool, true, not, _&&_}
 use lib.ListN.{length, getD}
 use lib.Ieee.{Float, nan}
 use Rattle.lists.specs.Gather.{gather}
-use Rattle.lists.specs.Lowest.{_if_, Reply, lowest}
+use Rattle.replies.specs.Replies.{_if_, Reply, firstReply}
 use Rattle.color.specs.declared.CandidateColor.{CandidateColor}
 use Rattle.color.specs.Color.{transparentReduced, transparentNormalized, bytesOf}
 use Rattle.color.specs.Oklab.{allInRange, floatsOf}
@@ -56,7 +56,7 @@ abbrev pub recordReplies : ℕ → Bool → List Reply
 recordReplies n ranged = (4 if not (countFits n)) ∷ (6 if not ranged) ∷ []
 
 unfoldable pub numberBy : ℕ → Bool → ℕ
-numberBy n ranged = lowest (recordReplies n ranged)
+numberBy n ranged = firstReply (recordReplies n ranged)
 
 -- the number of a list: 0 where it is accepted
 abbrev pub recordsNumber : List CandidateColor → ℕ

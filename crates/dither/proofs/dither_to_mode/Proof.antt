@@ -2,7 +2,7 @@
 -- Assumes nothing.
 use mathlib.Core.Path.{_≡_, sym, _∙_}
 use native.Mathlib.Omega.{arith}
-use Rattle.lists.specs.Lowest.{lowest}
+use Rattle.replies.specs.Replies.{firstReply}
 use Rattle.candidates.proofs.RoomLaws.{count-within}
 use Rattle.dither.specs.Mode.{Order, Buffers, order, buffers, candidateList, lengthsOf, checks}
 use Rattle.dither.proofs.NumberLaws.{accepted, room}
@@ -23,7 +23,7 @@ held s = let a = s .args in buffers (a .places .now) (a .oklab .now) (a .out .no
 abbrev start : tie.Else1 → tie.Start
 start c = c .before .before .before .before .before .before .before .before .before
 
-free : (c : tie.Else1) → lowest (checks (asked (start c) .settings) (lengthsOf (asked (start c)) (held (start c)))) ≡ 0
+free : (c : tie.Else1) → firstReply (checks (asked (start c) .settings) (lengthsOf (asked (start c)) (held (start c)))) ≡ 0
 free c = sym (c .before .refusal .ensures) ∙ c .if1 .left
 
 refusal-requires : tie.Need-refusal-requires

@@ -1,6 +1,6 @@
 -- `quantize::quantize_pixels` meets its contract: a refusal is answered before any store, and an acceptance after the work. Assumes nothing.
 use mathlib.Core.Path.{refl, sym, _∙_, ap}
-use Rattle.lists.proofs.LowestLaws.{after-refused}
+use Rattle.replies.proofs.ReplyLaws.{after-refused}
 use Rattle.quantize.specs.Quantize.{Order, order, replyOf, lengthsOf}
 use Rattle.quantize.proofs.FittingLaws.{refused, accepted}
 use borrow.Author.Needs.{needs}
