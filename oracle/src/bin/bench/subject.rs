@@ -26,9 +26,8 @@ fn normalized(bytes: &[u8]) -> NormalizedColor {
 
 impl Subject {
     fn new(width: u32, height: u32, pixels: Vec<u8>) -> Subject {
-        let own = own_tables(3, false);
-        let tables = LentTables { reduction: own.reduction.to_vec(), scale: own.scale.to_vec() };
-        Subject { width, height, colors: pixels.chunks_exact(4).map(normalized).collect(), pixels, tables }
+        let colors = pixels.chunks_exact(4).map(normalized).collect();
+        Subject { width, height, colors, pixels, tables: (&own_tables(3, false)).into() }
     }
 
     /// Noise over a range, around a gradient: like a photograph, with most of
