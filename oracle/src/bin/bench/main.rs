@@ -1,4 +1,4 @@
-//! Measures the original, as it is, against the port: same inputs, one run.
+//! Measures the original against the port: same inputs, one run.
 //!
 //!   bench [--quick] [--only TEXT]...
 //!   bench growth [--quick] [--to PATH]
@@ -49,10 +49,18 @@ fn options() -> Result<Options, String> {
     Ok(options)
 }
 
+/// The tables of growth, and their drawing at a path.
+fn grow(port: &Archive, quick: bool, path: &str) -> Result<(), String> {
+    let measured = growth::measured(port, quick)?;
+    std::fs::write(path, plot::drawn(&measured).png()).map_err(|wrong| format!("{path}: {wrong}"))?;
+    println!("wrote {path}");
+    Ok(())
+}
+
 fn run(options: Options) -> Result<(), String> {
     let port = Archive::default();
     if options.growth {
-        return growth::run(&port, options.quick, &options.to.unwrap_or("../docs/growth.png".into()));
+        return grow(&port, options.quick, &options.to.unwrap_or("../docs/growth.png".into()));
     }
     let (runs, large) = if options.quick { (3, 256) } else { (7, 1024) };
     let mut table = rows::Table::new(&port, runs, options.only);
