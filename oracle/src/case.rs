@@ -86,7 +86,7 @@ pub struct List {
 }
 
 /// Two lent tables, of any length.
-#[derive(Debug, Clone, Default)]
+#[derive(Debug, Clone, Default, PartialEq, Eq)]
 pub struct LentTables {
     pub reduction: Vec<u8>,
     pub scale: Vec<u8>,
