@@ -3,15 +3,17 @@
 //!   bench [--quick] [--only TEXT]...
 //!   bench growth [--quick] [--to PATH]
 //!
-//! The original here is the plain copy, with neither hooks nor probes. Its
-//! conversion is a stand-in, so each row has it three times: with the published
-//! definition in f32 (`f32`), with document 01's conversion worked out for each
-//! colour (`exact`), and with that remembered (`remembered`). Calls that the
-//! port lacks are left out by name. `growth` shows how time grows with pixels
-//! and with candidates, and draws it.
+//! The original here is the plain copy, with neither hooks nor probes. Only the
+//! lookups alone are asked of the other copy, since two of them are private; no
+//! hook is in their way. The original's conversion is a stand-in, so each row has
+//! it three times: with the published definition in f32 (`f32`), with document
+//! 01's conversion worked out for each colour (`exact`), and with that remembered
+//! (`remembered`). Calls that the port lacks are left out by name. `growth` shows
+//! how time grows with pixels and with candidates, and draws it.
 
 mod calls;
 mod growth;
+mod lookups;
 mod plot;
 mod rows;
 mod subject;
