@@ -2,13 +2,27 @@
 //! calls the port's archive has.
 //!
 //! None of the original's text stands in the repository: it is read from the
-//! folder named by `DOCS_SRC` (default: `shared` beside the repository). Two
-//! copies are written to OUT_DIR: `plain.rs`, as it is, for the benchmark; and
+//! folder named by `DOCS_SRC` (default: `shared` beside the repository), and is
+//! the text that we know only if its checksums are those below. Two copies are
+//! written to OUT_DIR, each with the stand-ins around it: `plain.rs`, in which
+//! the text is complete and nothing is added to it, for the benchmark; and
 //! `hooked.rs`, with probes appended that reach private functions and with two
 //! functions renamed so that lent tables can answer in their place.
 
+#[path = "build/sha256.rs"]
+mod sha256;
+
 use std::path::{Path, PathBuf};
 use std::{env, fs, process};
+
+/// The documents that are read, each with its SHA-256.
+const COLOR: Document = ("src--src--color.rs.txt", "e25fd146496f07d1ffef60f6d29964252fed2902d12b5694a92f21dc180f5e8f");
+const MODE_COLOR: Document =
+    ("src--src--mode--color.rs.txt", "35f1c8ab0aaf95989ac9cce4f99ace94a7ec26916055991f81084148358ed212");
+const DITHER: Document =
+    ("src--src--dither.rs.txt", "9549cc65a3117092f06c9014d045b3b9cf6183043430714135f0be5d367ba37d");
+
+type Document = (&'static str, &'static str);
 
 /// The calls of the C interface.
 const CALLS: [&str; 12] = [
@@ -44,20 +58,34 @@ fn own_text(path: &str) -> String {
     fs::read_to_string(path).unwrap_or_else(|e| fail(format!("{path}: {e}")))
 }
 
-/// A file of the original.
-fn original_text(folder: &Path, name: &str) -> String {
+/// A file of the original, or what is wrong with it: it must be the text that
+/// everything here was written for.
+fn original_text(folder: &Path, (name, pinned): Document) -> Result<String, String> {
     let path = folder.join(name);
     println!("cargo::rerun-if-changed={}", path.display());
-    fs::read_to_string(&path).unwrap_or_else(|_| {
-        fail(format!(
-            "{name} is not in the folder {}: set DOCS_SRC to the folder of the original's text",
-            folder.display()
-        ))
-    })
+    let text = fs::read_to_string(&path).map_err(|_| {
+        format!("{name} is not in the folder {}: set DOCS_SRC to the folder of the original's text", folder.display())
+    })?;
+    let found = sha256::hex(text.as_bytes());
+    if found == pinned {
+        return Ok(text);
+    }
+    Err(format!("{name} differs from the text that is known here: its SHA-256 is {found} and not {pinned}"))
+}
+
+/// The three files, or the end of the build with a line for each that is wrong.
+fn original_texts(folder: &Path) -> [String; 3] {
+    let texts = [COLOR, MODE_COLOR, DITHER].map(|document| original_text(folder, document));
+    let wrong: Vec<&String> = texts.iter().filter_map(|text| text.as_ref().err()).collect();
+    if !wrong.is_empty() {
+        wrong.iter().for_each(|line| println!("cargo::error={line}"));
+        process::exit(1);
+    }
+    texts.map(Result::unwrap)
 }
 
 /// Renames the one function that `opening` opens, so that another can stand
-/// under its name. A text that lacks it, or has it twice, is not the one we know.
+/// under its name.
 fn renamed(text: &str, opening: &str, name: &str) -> String {
     let count = text.matches(opening).count();
     if count != 1 {
@@ -83,9 +111,7 @@ fn modules(color: &str, mode_color: &str, dither: &str) -> String {
 fn write_copies() {
     println!("cargo::rerun-if-env-changed=DOCS_SRC");
     let folder = PathBuf::from(env::var("DOCS_SRC").unwrap_or_else(|_| "../../shared".into()));
-    let color = original_text(&folder, "src--src--color.rs.txt");
-    let mode_color = original_text(&folder, "src--src--mode--color.rs.txt");
-    let dither = original_text(&folder, "src--src--dither.rs.txt");
+    let [color, mode_color, dither] = original_texts(&folder);
 
     let out = PathBuf::from(env::var("OUT_DIR").unwrap());
     fs::write(out.join("plain.rs"), modules(&color, &mode_color, &dither)).unwrap();

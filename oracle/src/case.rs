@@ -1,6 +1,8 @@
 //! The twelve calls, one case of each with everything that is lent, and the
 //! answer of a call as a list of named values.
 
+use crate::hooks::Tables;
+
 /// The calls of the C interface, in its order.
 #[derive(Debug, Clone, Copy, PartialEq, Eq)]
 pub enum Call {
@@ -84,10 +86,16 @@ pub struct List {
 }
 
 /// Two lent tables, of any length.
-#[derive(Debug, Clone, Default)]
+#[derive(Debug, Clone, Default, PartialEq, Eq)]
 pub struct LentTables {
     pub reduction: Vec<u8>,
     pub scale: Vec<u8>,
+}
+
+impl From<&Tables> for LentTables {
+    fn from(tables: &Tables) -> LentTables {
+        LentTables { reduction: tables.reduction.to_vec(), scale: tables.scale.to_vec() }
+    }
 }
 
 /// Buffers that a call may write are given as they are before it.

@@ -9,8 +9,7 @@ const BLACK: [u8; 4] = [0, 0, 0, 255];
 const WHITE: [u8; 4] = [31, 31, 31, 255];
 
 fn tables() -> LentTables {
-    let own = own_tables(3, false);
-    LentTables { reduction: own.reduction.to_vec(), scale: own.scale.to_vec() }
+    (&own_tables(3, false)).into()
 }
 
 /// A picture in one row against a palette, with rubbish in what is lent.

@@ -1,8 +1,9 @@
-//! The judge of the port: the original's dithering, built unchanged, an
-//! independent model of it, what each call of the C interface must answer, and
-//! a driver that compares a port with that.
+//! The judge of the port: the original's dithering, an independent model of it,
+//! what each call of the C interface must answer, and a driver that compares a
+//! port with that.
 
-// The original stands at the crate's root, where its own paths expect it.
+// The original, with probes and hooks (`build.rs`), stands at the crate's root,
+// where its own paths expect it.
 include!(concat!(env!("OUT_DIR"), "/hooked.rs"));
 
 pub mod account;

@@ -145,6 +145,30 @@ pub fn ordered_bracket(
     (dark.to_bytes(), light.to_bytes(), ratio)
 }
 
+/// A list of records that is made once and asked again and again, as the original
+/// asks it: answers are records and not positions.
+pub struct Records(Vec<CandidateColor>);
+
+impl Records {
+    pub fn new(reduced: &[u8], normalized: &[u8], lab: &[f32]) -> Records {
+        Records(records(reduced, normalized, lab))
+    }
+
+    pub fn nearest(&self, color: [u8; 3]) -> Rgba {
+        probe::nearest_record(&self.0, opaque(color)).reduced.to_bytes()
+    }
+
+    pub fn nearest_two(&self, color: [u8; 3], width: usize) -> (Rgba, Option<Rgba>) {
+        let (a, b) = dither::nearest_two(opaque(color), &self.0, width);
+        (a.reduced.to_bytes(), b.map(|b| b.reduced.to_bytes()))
+    }
+
+    pub fn ordered_bracket(&self, color: [u8; 3], width: usize) -> (Rgba, Rgba, f32) {
+        let (dark, light, ratio) = probe::bracket(opaque(color), &self.0, width);
+        (dark.to_bytes(), light.to_bytes(), ratio)
+    }
+}
+
 pub fn pick(dark: Rgba, light: Rgba, ratio: f32, kind: u32, x: u32, y: u32) -> Rgba {
     let [dark, light] = [dark, light].map(|c| ReducedColor(rgba(&c)));
     probe::pick((dark, light, ratio), kind_of(kind), x, y).to_bytes()

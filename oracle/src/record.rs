@@ -1,6 +1,8 @@
 //! The list of the original's answers that the repository replays: which cases
 //! it has, and how they are written.
 
+pub mod searches;
+
 use crate::case::{Call, Case, LentTables, List, Lookup};
 use crate::color::{ReducedColor, eq_rgb};
 use crate::examples;
@@ -11,22 +13,24 @@ use crate::reference::expected;
 use crate::rng::Rng;
 use crate::text::{hex, line, tables_line};
 
-/// How many cases of each expected number a group takes, and whether as many
-/// are taken of each kind.
+/// How many tables pictures are recorded with.
+const TABLE_SETS: u32 = 4;
+
+/// How many cases of an expected number a group takes, of one kind or of any.
+#[derive(Debug, Clone)]
 struct Quota {
     number: u32,
+    kind: Option<u32>,
     count: usize,
-    each_kind: bool,
 }
 
-fn quotas(call: Call) -> Vec<Quota> {
+/// The quotas of a call; of one on pictures for the tables of this turn.
+fn quotas(call: Call, turn: u32) -> Vec<Quota> {
     let plain = |counts: &[(u32, usize)]| -> Vec<Quota> {
-        counts.iter().map(|&(number, count)| Quota { number, count, each_kind: false }).collect()
+        counts.iter().map(|&(number, count)| Quota { number, kind: None, count }).collect()
     };
-    let with_kinds = |counts: &[(u32, usize)], kinds: &[u32]| {
-        let mut quotas = plain(counts);
-        quotas.extend(kinds.iter().map(|&number| Quota { number, count: 1, each_kind: true }));
-        quotas
+    let kinds = |number: u32, wanted: &dyn Fn(u32) -> bool| -> Vec<Quota> {
+        (0..11).filter(|&kind| wanted(kind)).map(|kind| Quota { number, kind: Some(kind), count: 1 }).collect()
     };
     match call {
         Call::ToOklab => plain(&[(0, 96)]),
@@ -38,10 +42,16 @@ fn quotas(call: Call) -> Vec<Quota> {
         Call::NearestTwo => plain(&[(0, 40), (3, 6), (4, 2), (6, 6)]),
         Call::OrderedBracket => plain(&[(0, 40), (3, 6), (4, 2), (6, 6)]),
         Call::Pick => plain(&[(0, 48), (1, 6), (9, 9)]),
-        // These are taken for each of the tables.
+        // These are taken for each of the tables, every kind among them; 8 has
+        // every kind over all tables.
         Call::CandidateColorsIn => plain(&[(0, 5), (1, 1), (2, 1), (3, 4), (7, 2)]),
-        Call::QuantizePixels => with_kinds(&[(1, 1), (2, 1), (3, 6), (4, 1)], &[0]),
-        Call::DitherToMode => with_kinds(&[(1, 1), (2, 2), (3, 5), (5, 2), (7, 2)], &[0, 8]),
+        Call::QuantizePixels => [plain(&[(1, 1), (2, 1), (3, 6), (4, 1)]), kinds(0, &|_| true)].concat(),
+        Call::DitherToMode => [
+            plain(&[(1, 1), (2, 2), (3, 5), (5, 2), (7, 2)]),
+            kinds(0, &|_| true),
+            kinds(8, &|kind| kind % TABLE_SETS == turn),
+        ]
+        .concat(),
     }
 }
 
@@ -55,26 +65,18 @@ fn kind_of(case: &Case) -> u32 {
 }
 
 /// Cases until every quota is full.
-fn sample(call: Call, seed: u64, fixed: Option<(u32, &Tables)>) -> Vec<Case> {
-    let mut wanted: Vec<(u32, Option<u32>, usize)> = Vec::new();
-    for Quota { number, count, each_kind } in quotas(call) {
-        if each_kind {
-            wanted.extend((0..11).map(|kind| (number, Some(kind), count)));
-        } else {
-            wanted.push((number, None, count));
-        }
-    }
+fn sample(call: Call, seed: u64, mut wanted: Vec<Quota>, fixed: Option<(u32, &Tables)>) -> Vec<Case> {
     let mut taken = Vec::new();
     for turn in 0.. {
         assert!(turn < 100_000, "no case of {} for {wanted:?}", call.name());
         let case = case_with(call, seed, turn, Style::RECORDER, fixed);
         let number = expected(&case).number();
-        let fits = |w: &&mut (u32, Option<u32>, usize)| w.0 == number && w.1.is_none_or(|k| k == kind_of(&case));
+        let fits = |w: &&mut Quota| w.number == number && w.kind.is_none_or(|k| k == kind_of(&case));
         if let Some(quota) = wanted.iter_mut().find(fits) {
-            quota.2 -= 1;
+            quota.count -= 1;
             taken.push(case);
         }
-        wanted.retain(|w| w.2 > 0);
+        wanted.retain(|w| w.count > 0);
         if wanted.is_empty() {
             break;
         }
@@ -83,11 +85,11 @@ fn sample(call: Call, seed: u64, fixed: Option<(u32, &Tables)>) -> Vec<Case> {
 }
 
 /// The tables that pictures are recorded with.
-fn table_sets(seed: u64) -> Vec<(u32, Tables)> {
+fn table_sets(seed: u64) -> [(u32, Tables); TABLE_SETS as usize] {
     let mut rng = Rng::new(seed);
     let arbitrary =
         Tables { reduction: std::array::from_fn(|_| rng.byte()), scale: std::array::from_fn(|_| rng.byte()) };
-    vec![(3, own_tables(3, false)), (4, own_tables(4, true)), (5, own_tables(5, false)), (3, arbitrary)]
+    [(3, own_tables(3, false)), (4, own_tables(4, true)), (5, own_tables(5, false)), (3, arbitrary)]
 }
 
 fn has_tables(call: Call) -> bool {
@@ -97,11 +99,17 @@ fn has_tables(call: Call) -> bool {
 /// The cases of a call's group.
 fn cases_of(call: Call, seed: u64) -> Vec<Case> {
     if !has_tables(call) {
-        return sample(call, seed, None);
+        return sample(call, seed, quotas(call, 0), None);
     }
-    let sets = table_sets(seed);
-    let turns = sets.iter().zip(1..);
-    turns.flat_map(|((shift, tables), turn)| sample(call, seed + turn, Some((*shift, tables)))).collect()
+    let mut all = Vec::new();
+    for ((shift, tables), turn) in table_sets(seed).iter().zip(0..) {
+        let mut cases = sample(call, seed + 1 + u64::from(turn), quotas(call, turn), Some((*shift, tables)));
+        // Those with spoiled tables last, so that the tables change less often.
+        let own = LentTables::from(tables);
+        cases.sort_by_key(|case| case.tables() != Some(&own));
+        all.extend(cases);
+    }
+    all
 }
 
 /// One group: its name and its cases, with a line wherever the tables change.
@@ -109,8 +117,7 @@ fn group(name: &str, cases: &[Case]) -> String {
     let mut text = format!("g {name}\n");
     let mut current: Option<&LentTables> = None;
     for case in cases {
-        let same = |t: &LentTables| current.is_some_and(|c| c.reduction == t.reduction && c.scale == t.scale);
-        if let Some(tables) = case.tables().filter(|t| !same(t)) {
+        if let Some(tables) = case.tables().filter(|&t| current != Some(t)) {
             text += &tables_line(tables);
             text.push('\n');
             current = Some(tables);
@@ -130,13 +137,16 @@ fn lookup_over(entries: usize, rng: &mut Rng) -> Lookup {
     Lookup { list, color: [color[0], color[1], color[2]], width: rng.within(1, 16) }
 }
 
-/// The cases of a lookup over records: more of the flat call's, without those
-/// that are refused for a length, which a list of records cannot be; and, since
-/// random lists are short and often of twins, lists of one and two records and
-/// of some hundreds. 300 is the most that the program has room for.
+/// The cases of a lookup over records: more of the flat call's, a dozen of them
+/// accepted, without those that are refused for a length, which a list of records
+/// cannot be; and, since random lists are short and often of twins, lists of one
+/// and two records and of some hundreds. 300 is the most that the program has
+/// room for.
 fn record_cases_of(call: Call, seed: u64) -> Vec<Case> {
-    let mut cases = sample(call, seed + 1, None);
-    cases.retain(|case| expected(case).number() != 3);
+    let mut wanted = quotas(call, 0);
+    wanted.retain(|quota| quota.number != 3);
+    wanted.iter_mut().filter(|quota| quota.number == 0).for_each(|quota| quota.count = 12);
+    let mut cases = sample(call, seed + 1, wanted, None);
     let mut rng = Rng::new(seed + 1);
     for entries in [1, 1, 2, 2, 2, 2, 150, 300] {
         let lookup = lookup_over(entries, &mut rng);
@@ -194,9 +204,18 @@ pub fn list(calls: &[Call], seed: u64, command: &str) -> String {
         }
         text += &group(call.name(), &cases_of(call, seed));
         match call {
-            Call::Nearest | Call::NearestTwo | Call::OrderedBracket => text += &records_group(call, seed),
-            Call::QuantizePixels => text += &group("quantize_pixels_examples", &examples::of_quantize()),
-            Call::DitherToMode => text += &group("dither_to_mode_examples", &examples::of_to_mode()),
+            Call::Nearest | Call::NearestTwo | Call::OrderedBracket => {
+                text += &group(&format!("{}_searches", call.name()), &searches::of_lookup(call, seed));
+                text += &records_group(call, seed);
+            }
+            Call::QuantizePixels => {
+                text += &group("quantize_pixels_searches", &searches::of_quantize());
+                text += &group("quantize_pixels_examples", &examples::of_quantize());
+            }
+            Call::DitherToMode => {
+                text += &group("dither_to_mode_searches", &searches::of_to_mode());
+                text += &group("dither_to_mode_examples", &examples::of_to_mode());
+            }
             _ => {}
         }
     }

@@ -38,6 +38,10 @@ pub(crate) mod probe {
         list.iter().position(|c| std::ptr::eq(c, record)).unwrap()
     }
 
+    pub fn nearest_record(list: &[CandidateColor], color: NormalizedColor) -> &CandidateColor {
+        nearest(list, color)
+    }
+
     pub fn nearest_position(list: &[CandidateColor], color: NormalizedColor) -> usize {
         position(list, nearest(list, color))
     }

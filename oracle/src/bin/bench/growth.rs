@@ -1,5 +1,4 @@
-//! How the time of a call grows with pixels and with candidates: two tables,
-//! and a drawing of them.
+//! How the time of a call grows with pixels and with candidates: two tables.
 
 use oracle::archive::Archive;
 use oracle::case::Call;
@@ -7,7 +6,6 @@ use oracle::port::Port;
 use quantette::{Conversion, with_conversion};
 
 use crate::calls::{self, BAYER, FLOYD_STEINBERG, Kind, OFF};
-use crate::plot;
 use crate::subject::{Subject, palette};
 use crate::timing::medians;
 
@@ -91,8 +89,8 @@ impl Growth {
     }
 }
 
-/// Measures both, prints the tables and draws them to `path`.
-pub fn run(port: &Archive, quick: bool, path: &str) -> Result<(), String> {
+/// Measures both and prints the tables.
+pub fn measured(port: &Archive, quick: bool) -> Result<[Growth; 2], String> {
     for call in [Call::QuantizePixels, Call::DitherToMode] {
         if !port.has(call) {
             return Err(format!("the port's archive lacks {}", call.name()));
@@ -102,7 +100,5 @@ pub fn run(port: &Archive, quick: bool, path: &str) -> Result<(), String> {
     println!("processor time, medians; the original with the published conversion in f32\n");
     let both = [with_pixels(port, runs), with_candidates(port, runs)];
     both.iter().for_each(Growth::print);
-    std::fs::write(path, plot::drawn(&both).png()).map_err(|wrong| format!("{path}: {wrong}"))?;
-    println!("wrote {path}");
-    Ok(())
+    Ok(both)
 }

@@ -1,17 +1,19 @@
-//! Measures the original, as it is, against the port: same inputs, one run.
+//! Measures the original against the port: same inputs, one run.
 //!
 //!   bench [--quick] [--only TEXT]...
 //!   bench growth [--quick] [--to PATH]
 //!
-//! The original here is the plain copy, with neither hooks nor probes. Its
-//! conversion is a stand-in, so each row has it three times: with the published
-//! definition in f32 (`f32`), with document 01's conversion worked out for each
-//! colour (`exact`), and with that remembered (`remembered`). Calls that the
-//! port lacks are left out by name. `growth` shows how time grows with pixels
-//! and with candidates, and draws it.
+//! The original here is the plain copy, with neither hooks nor probes. Only the
+//! lookups alone are asked of the other copy, since two of them are private; no
+//! hook is in their way. The original's conversion is a stand-in, so each row has
+//! it three times: with the published definition in f32 (`f32`), with document
+//! 01's conversion worked out for each colour (`exact`), and with that remembered
+//! (`remembered`). Calls that the port lacks are left out by name. `growth` shows
+//! how time grows with pixels and with candidates, and draws it.
 
 mod calls;
 mod growth;
+mod lookups;
 mod plot;
 mod rows;
 mod subject;
@@ -49,10 +51,18 @@ fn options() -> Result<Options, String> {
     Ok(options)
 }
 
+/// The tables of growth, and their drawing at a path.
+fn grow(port: &Archive, quick: bool, path: &str) -> Result<(), String> {
+    let measured = growth::measured(port, quick)?;
+    std::fs::write(path, plot::drawn(&measured).png()).map_err(|wrong| format!("{path}: {wrong}"))?;
+    println!("wrote {path}");
+    Ok(())
+}
+
 fn run(options: Options) -> Result<(), String> {
     let port = Archive::default();
     if options.growth {
-        return growth::run(&port, options.quick, &options.to.unwrap_or("../docs/growth.png".into()));
+        return grow(&port, options.quick, &options.to.unwrap_or("../docs/growth.png".into()));
     }
     let (runs, large) = if options.quick { (3, 256) } else { (7, 1024) };
     let mut table = rows::Table::new(&port, runs, options.only);

@@ -9,6 +9,7 @@ use oracle::rng::Rng;
 use quantette::{Conversion, exact, published, with_conversion};
 
 use crate::calls::{self, ATKINSON, BAYER, FLOYD_STEINBERG, Kind, OFF};
+use crate::lookups::{self, Asked};
 use crate::subject::{Subject, palette};
 use crate::timing::medians_of;
 
@@ -18,13 +19,23 @@ const KINDS: [Kind; 4] = [OFF, BAYER, ATKINSON, FLOYD_STEINBERG];
 const CONVERSIONS: [(&str, Conversion); 3] =
     [("f32", Conversion::PublishedF32), ("exact", Conversion::ExactAnew), ("remembered", Conversion::Exact)];
 
+/// What a row measures, as the least ratios are told apart.
+#[derive(Clone, Copy)]
+enum Of {
+    Lookup,
+    Picture,
+}
+
+/// The least ratio in each column, with its row.
+type Least = [Option<(f64, String)>; 3];
+
 pub struct Table<'a> {
     pub port: &'a Archive,
     pub runs: usize,
     /// Only rows whose names contain one of these, or, where there is none, all.
     pub only: Vec<String>,
-    /// The least ratio of a picture in each column, with its row.
-    least: [Option<(f64, String)>; 3],
+    /// For lookups and for pictures.
+    least: [Least; 2],
 }
 
 impl Table<'_> {
@@ -50,19 +61,26 @@ impl Table<'_> {
         println!("| {name} | {} | {} | {} |", times.join(" | "), each(Some(port)), ratios.join(" | "));
     }
 
-    /// Measures a call over a picture, if its row is wanted.
-    fn row<O: Fn(), P: FnMut()>(&mut self, name: &str, count: usize, runs: usize, call: impl FnOnce() -> (O, P)) {
+    /// Measures the original against the port, if the row is wanted.
+    fn row<O: Fn(), P: FnMut()>(
+        &mut self,
+        of: Of,
+        name: &str,
+        count: usize,
+        runs: usize,
+        both: impl FnOnce() -> (O, P),
+    ) {
         if !self.wants(name) {
             return;
         }
-        let (original, mut ported) = call();
+        let (original, mut ported) = both();
         let original = &original;
         let [mut float, mut anew, mut remembered] =
             CONVERSIONS.map(|(_, conversion)| move || with_conversion(conversion, original));
         let [float, anew, remembered, port] = medians_of(runs, [&mut float, &mut anew, &mut remembered, &mut ported]);
         let times = [float, anew, remembered];
         self.print(name, count, times.map(Some), port);
-        for (least, time) in self.least.iter_mut().zip(times) {
+        for (least, time) in self.least[of as usize].iter_mut().zip(times) {
             if least.as_ref().is_none_or(|(ratio, _)| time / port < *ratio) {
                 *least = Some((time / port, name.into()));
             }
@@ -74,22 +92,34 @@ impl Table<'_> {
         let entries = if entries == 1 { "1 entry".into() } else { format!("{entries} entries") };
         for &kind in kinds {
             let name = format!("quantize_pixels {what}, {entries}, {}", kind.2);
-            self.row(&name, subject.count(), runs, || calls::quantize_pixels(port, subject, &palette, kind));
+            let call = || calls::quantize_pixels(port, subject, &palette, kind);
+            self.row(Of::Picture, &name, subject.count(), runs, call);
         }
     }
 
-    fn mode_rows(&mut self, subject: &Subject, what: &str, runs: usize) {
+    fn mode_rows(&mut self, subject: &Subject, what: &str, kinds: &[Kind], runs: usize) {
         let (port, found) = (self.port, subject.candidates());
-        for kind in KINDS {
+        for &kind in kinds {
             let name = format!("dither_to_mode {what}, {found} candidates, {}", kind.2);
-            self.row(&name, subject.count(), runs, || calls::dither_to_mode(port, subject, kind));
+            let call = || calls::dither_to_mode(port, subject, kind);
+            self.row(Of::Picture, &name, subject.count(), runs, call);
         }
     }
 
     fn candidate_row(&mut self, subject: &Subject, what: &str) {
         let (port, runs) = (self.port, self.runs);
         let name = format!("candidate_colors_in {what}, {} candidates", subject.candidates());
-        self.row(&name, subject.count(), runs, || calls::candidate_colors_in(port, subject));
+        self.row(Of::Picture, &name, subject.count(), runs, || calls::candidate_colors_in(port, subject));
+    }
+
+    /// The lookups alone.
+    fn lookup_rows(&mut self, entries: usize) {
+        let (port, runs, asked) = (self.port, self.runs, Asked::of(entries));
+        for call in lookups::CALLS.into_iter().filter(|&call| port.has(call)) {
+            let width = if call == Call::Nearest { String::new() } else { format!(", width {}", lookups::WIDTH) };
+            let name = format!("lookup {}, {entries} entries{width}", call.name());
+            self.row(Of::Lookup, &name, asked.count(), runs, || asked.both(port, call));
+        }
     }
 
     /// The conversion alone, none remembered: the port against three exact ones
@@ -128,6 +158,7 @@ impl Table<'_> {
         if self.port.has(Call::ToOklab) {
             self.conversion_rows();
         }
+        [16, 256, 4096].into_iter().for_each(|entries| self.lookup_rows(entries));
         if self.port.has(Call::CandidateColorsIn) {
             self.candidate_row(&photo, "128x128");
             self.candidate_row(&Subject::smooth(128), "128x128 smooth");
@@ -144,22 +175,28 @@ impl Table<'_> {
             self.quantize_rows(&Subject::photo(large, 96, 2), &sides, 256, &KINDS, runs.min(3));
         }
         if self.port.has(Call::DitherToMode) {
-            self.mode_rows(&photo, "128x128", runs.min(5));
-            self.mode_rows(&Subject::smooth(128), "128x128 smooth", runs);
-            self.mode_rows(&few, "128x128 of 12 colours", runs);
+            self.mode_rows(&photo, "128x128", &KINDS, runs.min(5));
+            // What the original remembers and the port does not.
+            self.mode_rows(&Subject::repeated(2), "128x68 each colour twice", &[BAYER], runs.min(5));
+            self.mode_rows(&Subject::repeated(4), "128x136 each colour four times", &[BAYER], runs.min(5));
+            self.mode_rows(&Subject::smooth(128), "128x128 smooth", &KINDS, runs);
+            self.mode_rows(&few, "128x128 of 12 colours", &KINDS, runs);
         }
     }
 
     /// What stands below the table: the least ratios, and what was left out.
     pub fn close(&self) {
         println!();
-        for ((name, _), least) in CONVERSIONS.iter().zip(&self.least) {
-            if let Some((ratio, row)) = least {
-                println!("least ratio of a picture, {name}: {ratio:.2} ({row})");
+        for (of, least) in ["lookup", "picture"].into_iter().zip(&self.least) {
+            for ((name, _), least) in CONVERSIONS.iter().zip(least) {
+                if let Some((ratio, row)) = least {
+                    println!("least ratio of a {of}, {name}: {ratio:.2} ({row})");
+                }
             }
         }
-        let measured = [Call::ToOklab, Call::CandidateColorsIn, Call::QuantizePixels, Call::DitherToMode];
-        let absent: Vec<&str> = measured.into_iter().filter(|&c| !self.port.has(c)).map(Call::name).collect();
+        let pictures = [Call::CandidateColorsIn, Call::QuantizePixels, Call::DitherToMode];
+        let measured = [Call::ToOklab].into_iter().chain(lookups::CALLS).chain(pictures);
+        let absent: Vec<&str> = measured.filter(|&c| !self.port.has(c)).map(Call::name).collect();
         println!("left out: {}", if absent.is_empty() { "nothing".into() } else { absent.join(", ") });
     }
 }

@@ -24,11 +24,25 @@ fn normalized(bytes: &[u8]) -> NormalizedColor {
     NormalizedColor(Rgba8888::from_bytes(bytes.try_into().unwrap()))
 }
 
+/// A colour of eight bits a channel that reduces to number `k` of the 2^15 of
+/// five; `low` says which of the 512 that do. An odd factor spreads them.
+fn source(k: u32, low: u32) -> [u8; 4] {
+    let high = k * 20_077;
+    let byte = |shift: u32| ((high >> (5 * shift) & 31) << 3 | low >> (3 * shift) & 7) as u8;
+    [byte(2), byte(1), byte(0), 255]
+}
+
+fn shuffle(pixels: &mut [[u8; 4]]) {
+    let mut rng = Rng::new(7);
+    for last in (1..pixels.len()).rev() {
+        pixels.swap(last, rng.below(last as u64 + 1) as usize);
+    }
+}
+
 impl Subject {
     fn new(width: u32, height: u32, pixels: Vec<u8>) -> Subject {
-        let own = own_tables(3, false);
-        let tables = LentTables { reduction: own.reduction.to_vec(), scale: own.scale.to_vec() };
-        Subject { width, height, colors: pixels.chunks_exact(4).map(normalized).collect(), pixels, tables }
+        let colors = pixels.chunks_exact(4).map(normalized).collect();
+        Subject { width, height, colors, pixels, tables: (&own_tables(3, false)).into() }
     }
 
     /// Noise over a range, around a gradient: like a photograph, with most of
@@ -75,24 +89,21 @@ impl Subject {
     }
 
     /// A picture of 128x64 with no colour twice and just `count` candidates (a
-    /// power of two from 16 to 8192), in no order: 512 colours of eight bits a
-    /// channel reduce to each of five.
+    /// power of two from 16 to 8192), in no order.
     pub fn of_candidates(count: u32) -> Subject {
-        let mut rng = Rng::new(7);
-        let mut pixels: Vec<[u8; 4]> = (0..8192 / count)
-            .flat_map(|low| {
-                (0..count).map(move |k| {
-                    // An odd factor spreads them over the 2^15 reduced colours.
-                    let high = k * 20_077;
-                    let byte = |shift: u32| ((high >> (5 * shift) & 31) << 3 | low >> (3 * shift) & 7) as u8;
-                    [byte(2), byte(1), byte(0), 255]
-                })
-            })
-            .collect();
-        for last in (1..pixels.len()).rev() {
-            pixels.swap(last, rng.below(last as u64 + 1) as usize);
-        }
+        let mut pixels: Vec<[u8; 4]> =
+            (0..8192 / count).flat_map(|low| (0..count).map(move |k| source(k, low))).collect();
+        shuffle(&mut pixels);
         Subject::new(128, 64, pixels.concat())
+    }
+
+    /// A picture 128 pixels wide with 4,352 colours, all of them candidates, each
+    /// so many times and in no order: the original remembers every colour's
+    /// bracket, the port those of at most 256.
+    pub fn repeated(times: u32) -> Subject {
+        let mut pixels: Vec<[u8; 4]> = (0..times).flat_map(|_| (0..4352).map(|k| source(k, 0o252))).collect();
+        shuffle(&mut pixels);
+        Subject::new(128, 34 * times, pixels.concat())
     }
 
     pub fn count(&self) -> usize {

@@ -1,0 +1,101 @@
+//! Fixed cases at the bounds that are too large to be drawn often.
+
+use crate::case::{Candidates, Case, List, Lookup, Quantize, ToMode};
+use crate::hooks::Tables;
+use crate::model;
+use crate::original::{own_tables, to_oklab};
+use crate::rng::Rng;
+
+fn sequence_bytes(count: usize, seed: u64) -> Vec<u8> {
+    Rng::new(seed).bytes(count)
+}
+
+/// An opaque picture of colours that hardly repeat.
+fn noise(count: usize, seed: u64) -> Vec<u8> {
+    let mut pixels = sequence_bytes(4 * count, seed);
+    pixels.iter_mut().skip(3).step_by(4).for_each(|a| *a |= 128);
+    pixels
+}
+
+fn whole_quantize(kind: u32, width: u32, height: u32, entries: usize) -> Case {
+    let count = (width * height) as usize;
+    let cells = if model::is_diffusion(kind) { 3 * count } else { 0 };
+    Case::QuantizePixels(Quantize {
+        shift: 3,
+        kind,
+        width,
+        height,
+        tables: (&own_tables(3, false)).into(),
+        palette: sequence_bytes(4 * entries, 5).iter().map(|b| b & 31).collect(),
+        pixels: noise(count, 6),
+        indices: vec![0x31; count],
+        out: vec![0x32; 4 * count],
+        cells: vec![f32::NAN; cells],
+    })
+}
+
+fn whole_to_mode(kind: u32, width: u32, height: u32, limit: u32, places: usize) -> Case {
+    let count = (width * height) as usize;
+    let cells = if model::is_diffusion(kind) { 3 * count } else { 0 };
+    Case::DitherToMode(ToMode {
+        shift: 5,
+        kind,
+        width,
+        height,
+        origin: [u32::MAX - width, 3],
+        tile: [4096, 4096],
+        limit,
+        has_zero: 1,
+        zero: [1, 2, 3, 0],
+        tables: (&own_tables(5, true)).into(),
+        pixels: noise(count, 7),
+        places: vec![0x33; 4 * places],
+        oklab: vec![f32::NAN; 3 * places],
+        out: vec![0x34; 4 * count],
+        cells: vec![f32::NAN; cells],
+    })
+}
+
+fn long_lookup(entries: usize) -> Lookup {
+    let normalized = sequence_bytes(4 * entries, 8);
+    let oklab = normalized.chunks_exact(4).flat_map(|c| to_oklab([c[0], c[1], c[2]])).collect();
+    let list = List { reduced: sequence_bytes(4 * entries, 9), normalized, oklab };
+    Lookup { list, color: [90, 120, 60], width: 16 }
+}
+
+/// Colours in descending order, with as much room as there can be.
+fn many_candidates(places: usize) -> Case {
+    let identity = Tables { reduction: std::array::from_fn(|v| v as u8), scale: std::array::from_fn(|v| v as u8) };
+    let pixels = (0..65_536u32).rev().flat_map(|n| [(n >> 11) as u8, (n >> 5) as u8 & 63, (n & 31) as u8, 255]);
+    Case::CandidateColorsIn(Candidates {
+        shift: 4,
+        width: 256,
+        height: 256,
+        tables: (&identity).into(),
+        pixels: pixels.collect(),
+        places: vec![0x35; 4 * places],
+        oklab: vec![f32::NAN; 3 * places],
+    })
+}
+
+/// Cases at the largest bounds, always put to a port before random ones.
+pub fn corners() -> Vec<Case> {
+    vec![
+        whole_quantize(0, 1024, 1024, 2),
+        whole_quantize(3, 4096, 256, 2),
+        whole_quantize(10, 256, 4096, 2),
+        whole_quantize(9, 32, 32, 256),
+        whole_quantize(3, 32, 32, 256),
+        whole_quantize(3, 8, 8, 257),
+        whole_to_mode(9, 128, 128, 256, 512),
+        whole_to_mode(2, 128, 128, 256, 511),
+        whole_to_mode(2, 256, 256, 256, 512),
+        Case::Nearest(long_lookup(65_536)),
+        Case::Nearest(long_lookup(65_537)),
+        Case::NearestTwo(long_lookup(65_536)),
+        Case::OrderedBracket { lookup: long_lookup(65_536), dark: vec![1; 4], light: vec![2; 4] },
+        many_candidates(65_536),
+        many_candidates(65_535),
+        many_candidates(65_537),
+    ]
+}

@@ -1,0 +1,117 @@
+//! What kind of cases are wanted, and the small random parts that cases of every
+//! call are made of.
+
+use crate::hooks::Tables;
+use crate::rng::Rng;
+
+/// What kind of cases are wanted.
+#[derive(Debug, Clone, Copy)]
+pub struct Style {
+    /// No NaN and no infinity anywhere, for the recorded list.
+    pub finite: bool,
+    /// Sides of usual pictures go up to this.
+    pub side: u64,
+    /// Now and then long lists, large pictures and full rooms.
+    pub large: bool,
+}
+
+impl Style {
+    pub const DRIVER: Style = Style { finite: false, side: 24, large: true };
+    pub const RECORDER: Style = Style { finite: true, side: 5, large: false };
+}
+
+/// Makes one case.
+pub(super) struct Maker<'a> {
+    pub(super) rng: Rng,
+    pub(super) style: Style,
+    /// The shift and the tables of a picture, where they are given.
+    pub(super) fixed: Option<(u32, &'a Tables)>,
+}
+
+impl Maker<'_> {
+    pub(super) fn rgb(&mut self) -> [u8; 3] {
+        let r = &mut self.rng;
+        match r.below(6) {
+            0 => [r.byte(); 3],
+            1 => std::array::from_fn(|_| r.pick(&[0, 255])),
+            2 => std::array::from_fn(|_| r.below(12) as u8),
+            _ => std::array::from_fn(|_| r.byte()),
+        }
+    }
+
+    pub(super) fn kind(&mut self) -> u32 {
+        self.rng.below(11) as u32
+    }
+
+    pub(super) fn bad_kind(&mut self) -> u32 {
+        let random = self.rng.within(11, u64::from(u32::MAX)) as u32;
+        self.rng.pick(&[11, 12, 256, 265, u32::MAX, 0x8000_0001, random])
+    }
+
+    pub(super) fn bad_shift(&mut self) -> u32 {
+        let random = self.rng.u32() | 8;
+        self.rng.pick(&[0, 1, 2, 6, 7, 8, 16, 259, u32::MAX, 0x8000_0003, random])
+    }
+
+    pub(super) fn coordinate(&mut self) -> u32 {
+        let r = &mut self.rng;
+        match r.below(4) {
+            0 => r.below(20) as u32,
+            1 => u32::MAX - r.below(20) as u32,
+            _ => r.u32(),
+        }
+    }
+
+    /// A component that a lookup takes.
+    pub(super) fn good_component(&mut self) -> f32 {
+        let r = &mut self.rng;
+        match r.below(8) {
+            0 => r.pick(&[-2.0, 2.0, 0.0, -0.0, 1.0, -1.0, 0.5]),
+            1 => r.pick(&[f32::from_bits(2.0f32.to_bits() - 1), f32::MIN_POSITIVE, 1e-40, -1e-40, f32::EPSILON]),
+            2 => r.pick(&[-1.0, -0.5, 0.0, 0.5, 1.0]),
+            3..=4 => r.within(0, 2_000_000) as f32 / 1_000_000.0 - 1.0,
+            _ => 4.0 * r.unit() - 2.0,
+        }
+    }
+
+    /// A component that is refused.
+    pub(super) fn bad_component(&mut self) -> f32 {
+        let two = 2.0f32.to_bits();
+        let bits = [two + 1, (-2.0f32).to_bits() + 1, f32::MAX.to_bits(), 2.5f32.to_bits(), (-1e9f32).to_bits()];
+        let special = [
+            f32::INFINITY.to_bits(),
+            f32::NEG_INFINITY.to_bits(),
+            f32::NAN.to_bits(),
+            0x7f80_0001,
+            0xffc0_0000,
+            0xffff_ffff,
+            0x7fbf_ffff,
+        ];
+        if self.style.finite || self.rng.one_in(2) {
+            return f32::from_bits(self.rng.pick(&bits));
+        }
+        f32::from_bits(self.rng.pick(&special))
+    }
+
+    /// What a lent f32 buffer holds before a call.
+    pub(super) fn rubbish_floats(&mut self, count: usize) -> Vec<f32> {
+        let finite = self.style.finite;
+        let r = &mut self.rng;
+        (0..count)
+            .map(|_| match r.below(4) {
+                0 | 1 if !finite => f32::from_bits(0x7f80_0001 | r.u32() & 0x807f_ffff),
+                2 => r.within(0, 8160) as f32 / 16.0 - 255.0,
+                // The exponent stays below that of NaN and infinity.
+                _ => f32::from_bits(r.u32() & 0xbfff_ffff),
+            })
+            .collect()
+    }
+
+    /// Elements more or fewer than fit.
+    pub(super) fn misfit<T: Clone>(&mut self, buffer: &mut Vec<T>, each: usize, filler: T) {
+        let step = self.rng.pick(&[1, each, 2 * each + 1]);
+        let fewer = self.rng.one_in(2) && buffer.len() >= step;
+        let length = if fewer { buffer.len() - step } else { buffer.len() + step };
+        buffer.resize(length, filler);
+    }
+}

@@ -1,0 +1,199 @@
+//! How the mock draws a picture, judges its tiles and collects its candidates.
+
+use std::collections::BTreeSet;
+
+use super::choose::rgba;
+use super::slip::{Mock, Slip};
+use crate::case::ToMode;
+use crate::model::{self, Entry};
+use crate::original::Rgba;
+use crate::port::Read;
+
+/// A picture to be drawn.
+pub(super) struct Drawing<'a> {
+    pub(super) kind: u32,
+    pub(super) size: [usize; 2],
+    pub(super) origin: [u32; 2],
+    pub(super) zero: Option<Rgba>,
+    pub(super) read: Read<'a>,
+    pub(super) candidates: Vec<Entry>,
+    pub(super) width: u64,
+}
+
+/// What was chosen at a pixel: a reduced colour, and whether it counts in its
+/// tile. None where the pixel is transparent.
+pub(super) type Chosen = Option<(Rgba, bool)>;
+
+impl Drawing<'_> {
+    fn pixel(&self, i: usize) -> Rgba {
+        rgba(self.read.pixels, i)
+    }
+
+    pub(super) fn normalized(&self, color: Rgba) -> Rgba {
+        color.map(|v| self.read.scale[usize::from(v)])
+    }
+}
+
+impl Mock {
+    fn reduce(&self, read: Read, pixel: Rgba) -> Option<Rgba> {
+        let least = if self.has_slip(Slip::Alpha127Opaque) { 127 } else { 128 };
+        let [r, g, b] = model::rgb(pixel).map(|v| read.reduction[usize::from(v)]);
+        (pixel[3] >= least).then_some([r, g, b, 255])
+    }
+
+    pub(super) fn entry(&self, read: Read, reduced: Rgba) -> Entry {
+        let normalized = reduced.map(|v| read.scale[usize::from(v)]);
+        Entry { reduced, normalized, oklab: self.convert(model::rgb(normalized)) }
+    }
+
+    /// Adds a residual to the cells that the kernel reaches from pixel `i`.
+    fn scatter(&self, drawing: &Drawing, cells: &mut [f32], i: usize, residual: [f32; 3]) {
+        let [width, height] = drawing.size.map(|side| side as i64);
+        let (x, y) = (i as i64 % width, i as i64 / width);
+        for &(dx, dy, weight) in model::kernel(drawing.kind) {
+            let (tx, ty) = (x + dx, y + dy);
+            if tx < 0 || ty < 0 || tx >= width || ty >= height {
+                continue;
+            }
+            let all = self.has_slip(Slip::AtkinsonSharesAll) && drawing.kind == model::ATKINSON;
+            let weight = if all { weight as f32 * 8.0 / 6.0 } else { weight as f32 };
+            let at = 3 * (ty * width + tx) as usize;
+            for k in 0..3 {
+                cells[at + k] += residual[k] * (weight / 16.0);
+            }
+        }
+    }
+
+    /// A sum to a byte, halves away from zero, within 0..255.
+    fn to_byte(&self, sum: f32) -> u8 {
+        let rounded = if self.has_slip(Slip::RoundsHalvesDown) { (sum - 0.5).ceil() } else { sum.round() };
+        rounded.clamp(0.0, 255.0) as u8
+    }
+
+    fn diffuse_pixel(&self, drawing: &Drawing, cells: &mut [f32], i: usize) -> Rgba {
+        let pixel = drawing.pixel(i);
+        let sum: [f32; 3] = std::array::from_fn(|k| f32::from(pixel[k]) + cells[3 * i + k]);
+        let biased = sum.map(|v| self.to_byte(v));
+        let chosen = self.nearest_entry(drawing, biased);
+        let residual = std::array::from_fn(|k| {
+            let unrounded = self.has_slip(Slip::ResidualFromUnroundedSum);
+            let had = if unrounded { sum[k] } else { f32::from(biased[k]) };
+            had - f32::from(chosen.normalized[k])
+        });
+        if self.has_slip(Slip::CellsClearedAfterUse) {
+            cells[3 * i..3 * i + 3].fill(0.0);
+        }
+        self.scatter(drawing, cells, i, residual);
+        chosen.reduced
+    }
+
+    fn nearest_entry(&self, drawing: &Drawing, color: [u8; 3]) -> Entry {
+        let at = if self.has_slip(Slip::FixedPaletteEntry) { 0 } else { self.find_nearest(&drawing.candidates, color) };
+        drawing.candidates[at]
+    }
+
+    fn dither_pixel(&self, drawing: &Drawing, cells: &mut [f32], i: usize) -> Rgba {
+        let color = model::rgb(drawing.pixel(i));
+        if model::is_diffusion(drawing.kind) {
+            return self.diffuse_pixel(drawing, cells, i);
+        }
+        if drawing.kind == model::OFF || self.has_slip(Slip::FixedPaletteEntry) {
+            return self.nearest_entry(drawing, color).reduced;
+        }
+        let crop = if self.has_slip(Slip::MatrixInsideCrop) { [0, 0] } else { drawing.origin };
+        let (x, y) = (crop[0] + (i % drawing.size[0]) as u32, crop[1] + (i / drawing.size[0]) as u32);
+        let (dark, light, ratio) = self.find_bracket(&drawing.candidates, color, drawing.width);
+        model::pick(dark, light, ratio, drawing.kind, x, y).unwrap()
+    }
+
+    fn is_zero(&self, drawing: &Drawing, reduced: Rgba) -> bool {
+        let whole = self.has_slip(Slip::ColorZeroComparesAlpha);
+        let equal = |zero: Rgba| if whole { zero == reduced } else { zero[..3] == reduced[..3] };
+        !self.has_slip(Slip::ColorZeroDithered) && drawing.zero.is_some_and(equal)
+    }
+
+    fn draw_pixel(&self, drawing: &Drawing, cells: &mut [f32], i: usize) -> Chosen {
+        let reduced = self.reduce(drawing.read, drawing.pixel(i));
+        let kept = reduced.is_none_or(|c| self.is_zero(drawing, c));
+        if kept && self.has_slip(Slip::SkippedPassesCellOn) && !cells.is_empty() {
+            let cell = cells[3 * i..3 * i + 3].try_into().unwrap();
+            self.scatter(drawing, cells, i, cell);
+        }
+        let reduced = reduced?;
+        if kept {
+            return Some((reduced, !self.has_slip(Slip::ColorZeroNotCounted)));
+        }
+        if self.has_slip(Slip::DithersFirstRowOnly) && i >= drawing.size[0] {
+            return Some((reduced, true));
+        }
+        Some((self.dither_pixel(drawing, cells, i), true))
+    }
+
+    pub(super) fn draw(&self, drawing: &Drawing, cells: &mut [f32]) -> Vec<Chosen> {
+        if !self.has_slip(Slip::CellsStartAsLent) {
+            cells.fill(0.0);
+        }
+        (0..drawing.size[0] * drawing.size[1]).map(|i| self.draw_pixel(drawing, cells, i)).collect()
+    }
+
+    /// The first tile over its limit, row by row.
+    pub(super) fn judge(&self, case: &ToMode, chosen: &[Chosen]) -> Option<u32> {
+        let [width, height] = [case.width, case.height];
+        let limit = case.limit as usize + usize::from(self.has_slip(Slip::LimitOffByOne));
+        let mut tile = 0;
+        for top in (0..height).step_by(case.tile[1] as usize) {
+            for left in (0..width).step_by(case.tile[0] as usize) {
+                let (right, bottom) = (left + case.tile[0], top + case.tile[1]);
+                let whole = right <= width && bottom <= height;
+                let forgotten = self.has_slip(Slip::EdgeTilesForgotten) && !whole;
+                let colors = self.tile_colors(chosen, width, [left, right.min(width)], [top, bottom.min(height)]);
+                if colors > limit && !forgotten {
+                    return Some(if self.has_slip(Slip::InventsTileNumber) { 0 } else { tile });
+                }
+                tile += 1;
+            }
+        }
+        None
+    }
+
+    fn tile_colors(&self, chosen: &[Chosen], width: u32, xs: [u32; 2], ys: [u32; 2]) -> usize {
+        let mut colors = BTreeSet::new();
+        for y in ys[0]..ys[1] {
+            for x in xs[0]..xs[1] {
+                match chosen[(y * width + x) as usize] {
+                    Some((color, true)) => _ = colors.insert(color),
+                    None if self.has_slip(Slip::TransparentCountsInTile) => _ = colors.insert([0; 4]),
+                    _ => {}
+                }
+            }
+        }
+        colors.len()
+    }
+
+    /// Puts the candidates into their rooms: how many, or none where they do
+    /// not fit.
+    pub(super) fn collect(&self, read: Read, places: &mut [u8], oklab: &mut [f32]) -> Option<Vec<Entry>> {
+        let pixels = 0..read.pixels.len() / 4;
+        let reduced: BTreeSet<Rgba> = pixels.filter_map(|i| self.reduce(read, rgba(read.pixels, i))).collect();
+        let entries: Vec<Entry> = reduced.into_iter().map(|c| self.entry(read, c)).collect();
+        if 4 * entries.len() > places.len() {
+            self.refuse_with_seven(places, oklab);
+            return None;
+        }
+        for (i, entry) in entries.iter().enumerate() {
+            places[4 * i..4 * i + 4].copy_from_slice(&entry.reduced);
+            oklab[3 * i..3 * i + 3].copy_from_slice(&entry.oklab);
+        }
+        if self.has_slip(Slip::PlacesAfterCountCleared) {
+            places[4 * entries.len()..].fill(0);
+        }
+        Some(entries)
+    }
+
+    pub(super) fn index(&self, palette: &[u8], color: Rgba) -> u8 {
+        let mut equal = palette.chunks_exact(4).enumerate().filter(|(_, e)| **e == color).map(|(i, _)| i as u8);
+        let index = if self.has_slip(Slip::IndexOfLaterDuplicate) { equal.last() } else { equal.next() };
+        // A wrong program may choose a colour that is no entry.
+        index.unwrap_or(0)
+    }
+}

@@ -1,0 +1,115 @@
+//! What the mock refuses, with which number, and what a refusal does to the lent
+//! buffers.
+
+use super::slip::{Mock, Slip};
+use crate::case::{Quantize, ToMode};
+use crate::model;
+use crate::port::{Lists, Read, Rooms};
+
+impl Mock {
+    /// The number said for a list of tests in the order of their numbers.
+    pub(super) fn say(&self, tests: &[(bool, u32)]) -> u32 {
+        let mut said = tests.iter().filter(|t| t.0).map(|t| t.1);
+        let number = if self.has_slip(Slip::HighestNumberFirst) { said.last() } else { said.next() };
+        if self.has_slip(Slip::RefusesEverything) { number.unwrap_or(3) } else { number.unwrap_or(0) }
+    }
+
+    /// Whether results are written for this number.
+    pub(super) fn writes(&self, number: u32) -> bool {
+        number == 0 && !self.has_slip(Slip::WritesNothing)
+    }
+
+    pub(super) fn outside(&self, value: f32) -> bool {
+        match self.slip {
+            Some(Slip::RefusesExactlyTwo) => !(value > -2.0 && value < 2.0),
+            Some(Slip::AcceptsNan) => value < -2.0 || value > 2.0,
+            _ => !(value >= -2.0 && value <= 2.0),
+        }
+    }
+
+    pub(super) fn list_number(&self, lists: Lists, other: bool) -> u32 {
+        let n = lists.reduced.len() / 4;
+        let fit = lists.reduced.len() % 4 == 0 && lists.normalized.len() == 4 * n && lists.oklab.len() == 3 * n;
+        self.say(&[(!fit || other, 3), (n == 0 || n > 1 << 16, 4), (lists.oklab.iter().any(|&v| self.outside(v)), 6)])
+    }
+
+    pub(super) fn size_wrong(&self, width: u32, height: u32) -> bool {
+        width > 4096 || height > 4096 || width as u64 * height as u64 > 1 << 20
+    }
+
+    fn origin_wrong(&self, case: &ToMode) -> bool {
+        let over =
+            case.origin[0].checked_add(case.width).is_none() || case.origin[1].checked_add(case.height).is_none();
+        over && !self.has_slip(Slip::OriginOverflowAccepted)
+    }
+
+    pub(super) fn quantize_number(&self, case: &Quantize, read: Read, lengths: [usize; 3]) -> u32 {
+        let count = case.width as usize * case.height as usize;
+        let cells = if model::is_diffusion(case.kind) { 3 * count } else { 0 };
+        let fit = read.reduction.len() == 256
+            && read.scale.len() == 256
+            && read.pixels.len() == 4 * count
+            && read.palette.len() % 4 == 0
+            && lengths == [count, 4 * count, cells];
+        self.say(&[
+            (case.kind > 10 || case.shift < 3 || case.shift > 5, 1),
+            (self.size_wrong(case.width, case.height), 2),
+            (!fit, 3),
+            (read.palette.len() < 4 || read.palette.len() / 4 > 256, 4),
+        ])
+    }
+
+    pub(super) fn to_mode_number(&self, case: &ToMode, read: Read, rooms: &Rooms) -> u32 {
+        let count = case.width as usize * case.height as usize;
+        let cells = if model::is_diffusion(case.kind) { 3 * count } else { 0 };
+        let fit = read.reduction.len() == 256
+            && read.scale.len() == 256
+            && read.pixels.len() == 4 * count
+            && rooms.out.len() == 4 * count
+            && rooms.cells.len() == cells
+            && self.rooms_fit(rooms.places, rooms.oklab);
+        let sides = case.tile.iter().all(|&side| side > 0 && side <= 4096);
+        self.say(&[
+            (case.kind > 10 || case.shift < 3 || case.shift > 5, 1),
+            (self.size_wrong(case.width, case.height) || self.origin_wrong(case), 2),
+            (!fit, 3),
+            (!sides || case.limit > 256, 5),
+        ])
+    }
+
+    pub(super) fn rooms_fit(&self, places: &[u8], oklab: &[f32]) -> bool {
+        places.len() % 4 == 0 && places.len() <= 4 << 16 && 4 * oklab.len() == 3 * places.len()
+    }
+
+    pub(super) fn flag(&self, flag: u32) -> bool {
+        if self.has_slip(Slip::FlagReadAsByte) { flag as u8 != 0 } else { flag != 0 }
+    }
+
+    /// What a refusal does to a buffer: nothing, save with the slip for it.
+    pub(super) fn leave(&self, buffer: &mut [u8]) {
+        if self.has_slip(Slip::RefusalChangesBuffers) {
+            buffer.fill(0);
+        }
+    }
+
+    pub(super) fn refuse_with_seven(&self, places: &mut [u8], oklab: &mut [f32]) {
+        if !self.has_slip(Slip::SevenLeavesPlaces) {
+            places.fill(0);
+        }
+        if self.has_slip(Slip::SevenClearsOklab) {
+            oklab.fill(0.0);
+        }
+    }
+
+    pub(super) fn refuse_with_eight(&self, rooms: Rooms) {
+        if !self.has_slip(Slip::EightLeavesPixels) {
+            rooms.out.fill(0);
+        }
+        if !self.has_slip(Slip::EightLeavesCells) {
+            rooms.cells.fill(0.0);
+        }
+        if self.has_slip(Slip::EightClearsCandidates) {
+            rooms.places.fill(0);
+        }
+    }
+}
