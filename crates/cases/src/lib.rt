@@ -215,9 +215,9 @@ fn looked_up(letter: u8, room: &[u8], oklab: &mut [f32]) -> bool {
 }
 
 fn look_up(letter: u8, room: &[u8]) -> bool {
-    let mut oklab = [0.0f32; 256];
+    let mut oklab = [0.0f32; 1024];
     let n = part(room, 2).len() / 4;
-    if n <= 256 {
+    if n <= 1024 {
         return looked_up(letter, room, &mut oklab[0..n]);
     }
     false

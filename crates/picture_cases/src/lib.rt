@@ -1,5 +1,5 @@
 // The recorded cases of the calls on pictures, replayed: one module a call. A case lends the recorded buffers, cut to their
-// length, and compares the answer and all of them afterwards. There is room for 64 pixels and as many candidates, more than
+// length, and compares the answer and all of them afterwards. There is room for 320 pixels and as many candidates, more than
 // any recorded picture has. A case that needs more, or whose tokens have not the widths that its call wants, differs.
 mod modes;
 mod pictures;

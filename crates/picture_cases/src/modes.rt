@@ -147,14 +147,14 @@ pub fn dither_to_mode(room: &[u8]) -> bool {
     if !is_shaped(room) {
         return false;
     }
-    let mut places = [0u8; 256];
-    let mut oklab = [0.0f32; 192];
-    let mut out = [0u8; 256];
-    let mut cells = [0.0f32; 192];
-    let n = up_to(part(room, 14).len(), 256);
-    let m = up_to(part(room, 15).len() / 4, 192);
-    let k = up_to(part(room, 16).len(), 256);
-    let l = up_to(part(room, 17).len() / 4, 192);
+    let mut places = [0u8; 1280];
+    let mut oklab = [0.0f32; 960];
+    let mut out = [0u8; 1280];
+    let mut cells = [0.0f32; 960];
+    let n = up_to(part(room, 14).len(), 1280);
+    let m = up_to(part(room, 15).len() / 4, 960);
+    let k = up_to(part(room, 16).len(), 1280);
+    let l = up_to(part(room, 17).len() / 4, 960);
     dithered(
         room,
         &mut places[0..n],

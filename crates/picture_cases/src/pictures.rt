@@ -85,11 +85,11 @@ pub fn quantize_pixels(room: &[u8]) -> bool {
     ) {
         return false;
     }
-    let mut indices = [0u8; 64];
-    let mut out = [0u8; 256];
-    let mut cells = [0.0f32; 192];
-    let n = up_to(part(room, 8).len(), 64);
-    let m = up_to(part(room, 9).len(), 256);
-    let k = up_to(part(room, 10).len() / 4, 192);
+    let mut indices = [0u8; 320];
+    let mut out = [0u8; 1280];
+    let mut cells = [0.0f32; 960];
+    let n = up_to(part(room, 8).len(), 320);
+    let m = up_to(part(room, 9).len(), 1280);
+    let k = up_to(part(room, 10).len() / 4, 960);
     quantized(room, &mut indices[0..n], &mut out[0..m], &mut cells[0..k])
 }

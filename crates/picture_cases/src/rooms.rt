@@ -52,9 +52,9 @@ pub fn candidate_colors_in(room: &[u8]) -> bool {
     if !shaped(room, &[ANY, ANY, 4, 4, 4, ANY, ANY, ANY, 1, ANY, ANY, ANY]) {
         return false;
     }
-    let mut places = [0u8; 256];
-    let mut oklab = [0.0f32; 192];
-    let n = up_to(part(room, 6).len(), 256);
-    let m = up_to(part(room, 7).len() / 4, 192);
+    let mut places = [0u8; 1280];
+    let mut oklab = [0.0f32; 960];
+    let n = up_to(part(room, 6).len(), 1280);
+    let m = up_to(part(room, 7).len() / 4, 960);
     collected(room, &mut places[0..n], &mut oklab[0..m])
 }

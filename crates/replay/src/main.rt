@@ -142,15 +142,15 @@ fn replay(list: &[u8], room: &mut [u8]) {
 }
 
 // Room for the whole list.
-fn list_buffer() -> [u8; 400000]
-    ensures { λ r. ⌜ 400000 ≡ length r ⌝ }
+fn list_buffer() -> [u8; 500000]
+    ensures { λ r. ⌜ 500000 ≡ length r ⌝ }
 {
-    [0; 400000]
+    [0; 500000]
 }
 
 fn main() {
     let mut list = list_buffer();
     let n = io::read_full(STDIN_FILENO, &mut list);
-    let mut room = [0u8; 8192];
+    let mut room = [0u8; 32768];
     replay(&list[..n], &mut room);
 }

@@ -11,8 +11,8 @@ use crate::rng::Rng;
 
 /// The most that the program `replay` has room for: entries of a flat list, and
 /// pixels or candidates of a picture.
-pub const ENTRIES: usize = 85;
-pub const PIXELS: usize = 64;
+pub const ENTRIES: usize = 341;
+pub const PIXELS: usize = 320;
 
 /// How a list's entries lie, seen from the one that is nearest to the colour.
 #[derive(Clone, Copy)]
@@ -29,33 +29,36 @@ enum Order {
 
 /// Entries and order of the lists. One of 31 is searched one by one; one of 32
 /// has whole blocks, one of 85 five entries after them.
-const NEAREST: [(usize, Order); 6] = [
+const NEAREST: [(usize, Order); 7] = [
     (31, Order::Any),
     (32, Order::Any),
     (40, Order::Farther),
     (47, Order::Nearer),
     (48, Order::Twins),
-    (ENTRIES, Order::Any),
+    (85, Order::Any),
+    (300, Order::Nearer),
 ];
 
-/// The same with the width. A shortlist of 16 is full; one of 1 to 4 passes over
-/// blocks behind the first 16 times as many entries.
-const NEAREST_TWO: [(usize, Order, u64); 6] = [
+/// The same with the width. A shortlist of 16 is full; it passes over blocks
+/// behind the first 16 times as many entries, and so does one of 1 to 4.
+const NEAREST_TWO: [(usize, Order, u64); 7] = [
     (33, Order::Nearer, 16),
     (40, Order::Twins, u64::MAX),
     (41, Order::Any, 1),
     (57, Order::Farther, 2),
     (66, Order::Twins, 3),
-    (ENTRIES, Order::Any, 4),
+    (85, Order::Any, 4),
+    (300, Order::Any, 16),
 ];
 
-const ORDERED_BRACKET: [(usize, Order, u64); 6] = [
+const ORDERED_BRACKET: [(usize, Order, u64); 7] = [
     (33, Order::Any, 17),
     (40, Order::Farther, 0),
     (41, Order::Nearer, 1),
     (57, Order::Twins, 2),
     (66, Order::Any, 3),
-    (ENTRIES, Order::Farther, 4),
+    (85, Order::Farther, 4),
+    (300, Order::Any, 16),
 ];
 
 fn rgb(rng: &mut Rng) -> [u8; 3] {
@@ -183,14 +186,17 @@ fn to_mode(kind: u32, limit: u32, width: u32, pixels: &[Rgba]) -> Case {
     })
 }
 
-/// Pictures with as many candidates as there is room for. The limit gives the
-/// shortlist's width: 1 for 5, 3 for 16, and 16 for 256.
+/// Pictures with up to 290 candidates, more than there are rows for. The limit
+/// gives the shortlist's width: 1 for 5, 3 for 16, and 16 for 256.
 pub fn of_to_mode() -> Vec<Case> {
     let (bayer_4x4, bayer_8x8, checker) = (2, 3, 4);
     let different = |count: usize| (0..count).map(|k| source(k, 5)).collect::<Vec<Rgba>>();
     let words: Vec<Rgba> = (0..10).flat_map(|k| word_replaced(k)).chain(different(24)).collect();
+    let again = (0..16).map(|k| source(k, 6));
+    let rows: Vec<Rgba> = different(290).into_iter().chain(again).collect();
     vec![
-        to_mode(bayer_8x8, 5, 8, &different(PIXELS)),
+        to_mode(bayer_8x8, 256, 18, &rows),
+        to_mode(bayer_8x8, 5, 8, &different(64)),
         to_mode(checker, 16, 10, &different(60)),
         to_mode(bayer_4x4, 256, 8, &words),
         to_mode(model::OFF, 256, 8, &words),
