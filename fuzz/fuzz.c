@@ -1,8 +1,8 @@
 /*
  * A fuzz of the C interface: arbitrary calls of all twelve functions with buffers of exact length (lent.h). After each call the
  * number is held to the scope document's table, worked out here anew (table.h), and every buffer to what the table says is
- * left; 8 alone is taken as it comes, with its effects checked. What the values are is for the comparison with the original
- * to say (oracle/).
+ * left; a tile over its limit alone is taken as it comes, with its effects checked. What the values are is for the comparison
+ * with the original to say (oracle/).
  *
  *   fuzz [--heap] SEED COUNT [FROM]
  *
@@ -46,7 +46,7 @@ static void check(bool holds, const char *what)
 static uint32_t held(uint32_t number, uint32_t expected, Lent *const *written)
 {
     check(number == expected, "another number than the table has");
-    check(number == 0 ? unchanged_but(written) : unchanged_but(NAMED(NULL)), "a buffer was changed");
+    check(unchanged_but(number == BADGE_ACCEPTED ? written : NAMED(NULL)), "a buffer was changed");
     return number;
 }
 
@@ -62,6 +62,16 @@ static uint32_t u32_in(const Lent *lent)
     uint32_t value;
     memcpy(&value, lent->fill, sizeof value);
     return value;
+}
+
+/* The number of a call that asks a kind for its threshold, where some length may be wrong besides. */
+static uint32_t matrix_number(uint32_t kind, bool length)
+{
+    if (kind_wrong(kind))
+        return BADGE_REFUSED_KIND_OR_SHIFT;
+    if (length)
+        return BADGE_REFUSED_LENGTH;
+    return has_matrix(kind) ? BADGE_ACCEPTED : BADGE_REFUSED_NO_MATRIX;
 }
 
 /* ---- single values */
@@ -84,8 +94,8 @@ static uint32_t try_oklab_sqdist(void)
     Lent *distance = lend_to_write(1, sizeof(float));
     lent_remember();
     uint32_t number = badge_oklab_sqdist(c[0], c[1], c[2], c[3], c[4], c[5], distance->at);
-    held(number, some_component_wrong(c, 6) ? 6 : 0, NAMED(distance));
-    check(number != 0 || (float_in(distance) >= 0.0f && float_in(distance) < 100.0f), "a distance");
+    held(number, some_component_wrong(c, 6) ? BADGE_REFUSED_COMPONENT : BADGE_ACCEPTED, NAMED(distance));
+    check(number != BADGE_ACCEPTED || (float_in(distance) >= 0.0f && float_in(distance) < 100.0f), "a distance");
     return number;
 }
 
@@ -95,8 +105,8 @@ static uint32_t try_ordered_threshold(void)
     Lent *threshold = lend_to_write(1, sizeof(float));
     lent_remember();
     uint32_t number = badge_ordered_threshold(kind, make_place(), make_place(), threshold->at);
-    held(number, kind_wrong(kind) ? 1 : has_matrix(kind) ? 0 : 9, NAMED(threshold));
-    check(number != 0 || (float_in(threshold) > 0.0f && float_in(threshold) < 1.0f), "a threshold");
+    held(number, matrix_number(kind, false), NAMED(threshold));
+    check(number != BADGE_ACCEPTED || (float_in(threshold) > 0.0f && float_in(threshold) < 1.0f), "a threshold");
     return number;
 }
 
@@ -107,10 +117,10 @@ static uint32_t try_bracket_width(void)
     Lent *width = lend_to_write(1, sizeof(uint64_t));
     lent_remember();
     uint32_t number = badge_bracket_width(shift, max, width->at);
-    held(number, shift_wrong(shift) ? 1 : 0, NAMED(width));
+    held(number, shift_wrong(shift) ? BADGE_REFUSED_KIND_OR_SHIFT : BADGE_ACCEPTED, NAMED(width));
     uint64_t few = max < 1000 ? (max * shift + 8) / 16 : 16, got;
     memcpy(&got, width->fill, sizeof got);
-    check(number != 0 || got == (few < 1 ? 1 : few > 16 ? 16 : few), "a width");
+    check(number != BADGE_ACCEPTED || got == (few < 1 ? 1 : few > 16 ? 16 : few), "a width");
     return number;
 }
 
@@ -149,10 +159,10 @@ static size_t entries_of(const List *list)
 static uint32_t list_number(const List *list)
 {
     if (list_wrong(list->reduced->len, list->normalized->len, list->oklab->len))
-        return 3;
+        return BADGE_REFUSED_LENGTH;
     if (entries_wrong(entries_of(list), 65536))
-        return 4;
-    return some_component_wrong(list->oklab->fill, list->oklab->len) ? 6 : 0;
+        return BADGE_REFUSED_ENTRIES;
+    return some_component_wrong(list->oklab->fill, list->oklab->len) ? BADGE_REFUSED_COMPONENT : BADGE_ACCEPTED;
 }
 
 static uint32_t try_nearest(void)
@@ -164,7 +174,7 @@ static uint32_t try_nearest(void)
                                     list.oklab->at, list.oklab->len, random_byte(), random_byte(), random_byte(),
                                     position->at);
     held(number, list_number(&list), NAMED(position));
-    check(number != 0 || u32_in(position) < entries_of(&list), "a position");
+    check(number != BADGE_ACCEPTED || u32_in(position) < entries_of(&list), "a position");
     return number;
 }
 
@@ -178,8 +188,8 @@ static uint32_t try_nearest_two(void)
                                         make_width(), first->at, second->at);
     held(number, list_number(&list), NAMED(first, second));
     size_t entries = entries_of(&list);
-    check(number != 0 || (u32_in(first) < entries && u32_in(second) < entries), "a position");
-    check(number != 0 || (u32_in(first) == u32_in(second)) == (entries == 1), "a second");
+    check(number != BADGE_ACCEPTED || (u32_in(first) < entries && u32_in(second) < entries), "a position");
+    check(number != BADGE_ACCEPTED || (u32_in(first) == u32_in(second)) == (entries == 1), "a second");
     return number;
 }
 
@@ -201,8 +211,8 @@ static uint32_t try_ordered_bracket(void)
                                             list.oklab->at, list.oklab->len, random_byte(), random_byte(), random_byte(),
                                             make_width(), dark->at, dark->len, light->at, light->len, ratio->at);
     bool rooms = dark->len == 4 && light->len == 4;
-    held(number, rooms ? list_number(&list) : 3, NAMED(dark, light, ratio));
-    if (number == 0) {
+    held(number, rooms ? list_number(&list) : BADGE_REFUSED_LENGTH, NAMED(dark, light, ratio));
+    if (number == BADGE_ACCEPTED) {
         check(is_color_of(dark, list.reduced) && is_color_of(light, list.reduced), "a colour of the bracket");
         check(float_in(ratio) >= 0.0f && float_in(ratio) <= 1.0f, "a ratio");
     }
@@ -220,8 +230,8 @@ static uint32_t try_pick(void)
     lent_remember();
     uint32_t number = badge_pick(dark->at, dark->len, light->at, light->len, ratio, kind, x, y, chosen->at, chosen->len);
     bool rooms = dark->len == 4 && light->len == 4 && chosen->len == 4;
-    held(number, kind_wrong(kind) ? 1 : !rooms ? 3 : has_matrix(kind) ? 0 : 9, NAMED(chosen));
-    if (number == 0) {
+    held(number, matrix_number(kind, !rooms), NAMED(chosen));
+    if (number == BADGE_ACCEPTED) {
         float threshold = 0.0f;
         badge_ordered_threshold(kind, x, y, &threshold);
         check(memcmp(chosen->fill, ratio > threshold ? light->fill : dark->fill, 4) == 0, "a pick");
@@ -333,14 +343,21 @@ static bool overflows(const Rooms *rooms)
     return rooms->count > rooms->places->len / 4;
 }
 
-/* The numbers up to 3 of the calls that have rooms for candidates. */
-static uint32_t rooms_number(const Picture *p, const Rooms *rooms, bool one, bool two, bool three)
+/* The number of the calls that have rooms for candidates, up to a wrong length; each of the three may be wrong elsewhere. */
+static uint32_t rooms_number(const Picture *p, const Rooms *rooms, bool kind, bool size, bool length)
 {
-    if (one || shift_wrong(p->shift))
-        return 1;
-    if (two || size_wrong(p->size.width, p->size.height))
-        return 2;
-    return three || picture_wrong(p) || rooms_wrong(rooms->places->len, rooms->oklab->len) ? 3 : 0;
+    if (kind || shift_wrong(p->shift))
+        return BADGE_REFUSED_KIND_OR_SHIFT;
+    if (size || size_wrong(p->size.width, p->size.height))
+        return BADGE_REFUSED_SIZE;
+    length = length || picture_wrong(p) || rooms_wrong(rooms->places->len, rooms->oklab->len);
+    return length ? BADGE_REFUSED_LENGTH : BADGE_ACCEPTED;
+}
+
+/* What too many candidates leave. */
+static void check_overflow(const Rooms *rooms)
+{
+    check(is_zero(rooms->places) && unchanged_but(NAMED(rooms->places)), "what too many candidates leave");
 }
 
 static uint32_t try_candidate_colors_in(void)
@@ -353,10 +370,10 @@ static uint32_t try_candidate_colors_in(void)
         p.shift, p.size.width, p.size.height, p.reduction->at, p.reduction->len, p.scale->at, p.scale->len, p.pixels->at,
         p.pixels->len, rooms.places->at, rooms.places->len, rooms.oklab->at, rooms.oklab->len, count->at);
     uint32_t expected = rooms_number(&p, &rooms, false, false, false);
-    if (expected == 0 && overflows(&rooms)) {
-        check(number == 7, "another number than 7");
-        check(is_zero(rooms.places) && unchanged_but(NAMED(rooms.places)), "what 7 leaves");
-    } else if (held(number, expected, NAMED(rooms.places, rooms.oklab, count)) == 0) {
+    if (expected == BADGE_ACCEPTED && overflows(&rooms)) {
+        check(number == BADGE_REFUSED_TOO_MANY_CANDIDATES, "too many candidates, and another number");
+        check_overflow(&rooms);
+    } else if (held(number, expected, NAMED(rooms.places, rooms.oklab, count)) == BADGE_ACCEPTED) {
         check(u32_in(count) == rooms.count, "the count");
         check_rooms(&rooms, p.scale);
     }
@@ -398,13 +415,13 @@ static uint32_t quantize_number(const Picture *p, uint32_t kind, const Lent *pal
 {
     size_t pixels = (size_t)p->size.width * p->size.height;
     if (kind_wrong(kind) || shift_wrong(p->shift))
-        return 1;
+        return BADGE_REFUSED_KIND_OR_SHIFT;
     if (size_wrong(p->size.width, p->size.height))
-        return 2;
+        return BADGE_REFUSED_SIZE;
     if (picture_wrong(p) || palette->len % 4 != 0 || indices->len != pixels || out->len != 4 * pixels
         || cells_wrong(cells->len, kind, pixels))
-        return 3;
-    return entries_wrong(palette->len / 4, 256) ? 4 : 0;
+        return BADGE_REFUSED_LENGTH;
+    return entries_wrong(palette->len / 4, 256) ? BADGE_REFUSED_ENTRIES : BADGE_ACCEPTED;
 }
 
 static uint32_t try_quantize_pixels(void)
@@ -418,7 +435,7 @@ static uint32_t try_quantize_pixels(void)
         p.shift, kind, p.size.width, p.size.height, p.reduction->at, p.reduction->len, p.scale->at, p.scale->len, palette->at,
         palette->len, p.pixels->at, p.pixels->len, indices->at, indices->len, out->at, out->len, cells->at, cells->len);
     uint32_t expected = quantize_number(&p, kind, palette, indices, out, cells);
-    if (held(number, expected, NAMED(indices, out, cells)) == 0) {
+    if (held(number, expected, NAMED(indices, out, cells)) == BADGE_ACCEPTED) {
         check_quantized(&p, palette, indices, out);
         check_cells(cells);
     }
@@ -446,29 +463,30 @@ static Mode make_mode(const Picture *p)
     return m;
 }
 
-/* The numbers up to 7. */
+/* The number, but for a tile over its limit. */
 static uint32_t mode_number(const Picture *p, const Rooms *rooms, const Mode *m)
 {
     size_t pixels = (size_t)p->size.width * p->size.height;
-    bool two = origin_wrong(m->origin_x, p->size.width) || origin_wrong(m->origin_y, p->size.height);
-    bool three = m->out->len != 4 * pixels || cells_wrong(m->cells->len, m->kind, pixels);
-    uint32_t number = rooms_number(p, rooms, kind_wrong(m->kind), two, three);
-    if (number != 0)
+    bool size = origin_wrong(m->origin_x, p->size.width) || origin_wrong(m->origin_y, p->size.height);
+    bool length = m->out->len != 4 * pixels || cells_wrong(m->cells->len, m->kind, pixels);
+    uint32_t number = rooms_number(p, rooms, kind_wrong(m->kind), size, length);
+    if (number != BADGE_ACCEPTED)
         return number;
     if (tile_wrong(m->tile_width, m->tile_height, m->limit))
-        return 5;
-    return overflows(rooms) ? 7 : 0;
+        return BADGE_REFUSED_TILES;
+    return overflows(rooms) ? BADGE_REFUSED_TOO_MANY_CANDIDATES : BADGE_ACCEPTED;
 }
 
-/* What 8 leaves: the rooms as on acceptance, and a tile that there is. */
+/* What a tile over its limit leaves: the rooms as on acceptance, and a tile that there is. */
 static void check_tile_over(const Picture *p, const Rooms *rooms, const Mode *m)
 {
     uint32_t columns = (p->size.width + m->tile_width - 1) / m->tile_width;
     uint32_t rows = (p->size.height + m->tile_height - 1) / m->tile_height;
-    check(rooms->count > m->limit, "8 although there are too few colours for it");
+    check(rooms->count > m->limit, "a tile over its limit although there are too few colours for it");
     check(u32_in(m->tile) < columns * rows, "the tile");
-    check(is_zero(m->out) && is_zero(m->cells), "pixels and cells after 8");
-    check(unchanged_but(NAMED(rooms->places, rooms->oklab, m->out, m->cells, m->count, m->tile)), "what 8 leaves");
+    check(is_zero(m->out) && is_zero(m->cells), "pixels and cells after a tile over its limit");
+    check(unchanged_but(NAMED(rooms->places, rooms->oklab, m->out, m->cells, m->count, m->tile)),
+          "what a tile over its limit leaves");
 }
 
 /* What acceptance leaves: a transparent pixel is all 0, any other has alpha 255, normalised. */
@@ -485,16 +503,17 @@ static void check_dithered(const Picture *p, const Rooms *rooms, const Mode *m)
 
 static void check_mode(const Picture *p, const Rooms *rooms, const Mode *m, uint32_t number, uint32_t expected)
 {
-    check(number == expected || (number == 8 && expected == 0), "another number than the table has");
-    if (number == 7) {
-        check(is_zero(rooms->places) && unchanged_but(NAMED(rooms->places)), "what 7 leaves");
+    bool over = number == BADGE_REFUSED_TILE_OVER;
+    check(number == expected || (over && expected == BADGE_ACCEPTED), "another number than the table has");
+    if (number == BADGE_REFUSED_TOO_MANY_CANDIDATES) {
+        check_overflow(rooms);
         return;
     }
-    if (number != 0 && number != 8) {
+    if (number != BADGE_ACCEPTED && !over) {
         check(unchanged_but(NAMED(NULL)), "a buffer was changed");
         return;
     }
-    if (number == 8)
+    if (over)
         check_tile_over(p, rooms, m);
     else
         check_dithered(p, rooms, m);
@@ -520,27 +539,48 @@ static uint32_t try_dither_to_mode(void)
 
 /* ---- the run */
 
-/* Each call, and the numbers that it may give. */
+enum { CALLS = 12, NUMBERS = BADGE_REFUSED_NO_MATRIX + 1 };
+
+/* The numbers that a call may give beside 0, as bits. */
+enum {
+    KIND = 1 << BADGE_REFUSED_KIND_OR_SHIFT,
+    SIZE = 1 << BADGE_REFUSED_SIZE,
+    LENGTH = 1 << BADGE_REFUSED_LENGTH,
+    ENTRIES = 1 << BADGE_REFUSED_ENTRIES,
+    TILES = 1 << BADGE_REFUSED_TILES,
+    COMPONENT = 1 << BADGE_REFUSED_COMPONENT,
+    MANY = 1 << BADGE_REFUSED_TOO_MANY_CANDIDATES,
+    OVER = 1 << BADGE_REFUSED_TILE_OVER,
+    NO_MATRIX = 1 << BADGE_REFUSED_NO_MATRIX,
+    LIST = LENGTH | ENTRIES | COMPONENT
+};
+
 static const struct {
     const char *name;
     uint32_t (*make)(void);
-    const char *numbers;
-} CALLS[12] = {
-    {"to_oklab", try_to_oklab, "0"},
-    {"oklab_sqdist", try_oklab_sqdist, "06"},
-    {"ordered_threshold", try_ordered_threshold, "019"},
-    {"bracket_width", try_bracket_width, "01"},
-    {"lerp", try_lerp, "0"},
-    {"nearest", try_nearest, "0346"},
-    {"nearest_two", try_nearest_two, "0346"},
-    {"ordered_bracket", try_ordered_bracket, "0346"},
-    {"pick", try_pick, "0139"},
-    {"candidate_colors_in", try_candidate_colors_in, "01237"},
-    {"quantize_pixels", try_quantize_pixels, "01234"},
-    {"dither_to_mode", try_dither_to_mode, "0123578"},
+    unsigned refusals;
+} calls[CALLS] = {
+    {"to_oklab", try_to_oklab, 0},
+    {"oklab_sqdist", try_oklab_sqdist, COMPONENT},
+    {"ordered_threshold", try_ordered_threshold, KIND | NO_MATRIX},
+    {"bracket_width", try_bracket_width, KIND},
+    {"lerp", try_lerp, 0},
+    {"nearest", try_nearest, LIST},
+    {"nearest_two", try_nearest_two, LIST},
+    {"ordered_bracket", try_ordered_bracket, LIST},
+    {"pick", try_pick, KIND | LENGTH | NO_MATRIX},
+    {"candidate_colors_in", try_candidate_colors_in, KIND | SIZE | LENGTH | MANY},
+    {"quantize_pixels", try_quantize_pixels, KIND | SIZE | LENGTH | ENTRIES},
+    {"dither_to_mode", try_dither_to_mode, KIND | SIZE | LENGTH | TILES | MANY | OVER},
 };
 
-static uint64_t given[12][10];
+static uint64_t given[CALLS][NUMBERS];
+
+/* Whether a call may give a number. */
+static bool may(size_t k, uint32_t number)
+{
+    return number == BADGE_ACCEPTED || (number < NUMBERS && (calls[k].refusals >> number & 1) != 0);
+}
 
 /* Says which call was made when the archive touched what it may not. */
 static void on_signal(int signal)
@@ -563,10 +603,10 @@ static void watch_signals(void)
 static void make_call(void)
 {
     random_begin(seed, number_of_call);
-    size_t k = below(12);
-    name_of_call = CALLS[k].name;
-    uint32_t number = CALLS[k].make();
-    check(number <= 9 && strchr(CALLS[k].numbers, (int)('0' + number)) != NULL, "a number that the call may not give");
+    size_t k = below(CALLS);
+    name_of_call = calls[k].name;
+    uint32_t number = calls[k].make();
+    check(may(k, number), "a number that the call may not give");
     given[k][number]++;
     lent_return();
 }
@@ -576,14 +616,13 @@ static bool report(uint64_t count)
 {
     bool all_met = true;
     printf("%-20s", "number");
-    for (int n = 0; n < 10; n++)
+    for (int n = 0; n < NUMBERS; n++)
         printf("%9d", n);
-    for (size_t k = 0; k < 12; k++) {
-        printf("\n%-20s", CALLS[k].name);
-        for (int n = 0; n < 10; n++) {
-            bool may = strchr(CALLS[k].numbers, '0' + n) != NULL;
-            all_met = all_met && (!may || given[k][n] != 0);
-            if (may)
+    for (size_t k = 0; k < CALLS; k++) {
+        printf("\n%-20s", calls[k].name);
+        for (uint32_t n = 0; n < NUMBERS; n++) {
+            all_met = all_met && (!may(k, n) || given[k][n] != 0);
+            if (may(k, n))
                 printf("%9" PRIu64, given[k][n]);
             else
                 printf("%9s", "-");

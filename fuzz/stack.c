@@ -1,6 +1,6 @@
 /*
  * Measures how much stack each of the twelve calls takes, over inputs of every path: all kinds and shifts, palettes of 256
- * entries, lists of 65,536, refusals from 1 to 9. Two ways:
+ * entries, lists of 65,536, refusals. Two ways:
  *
  *   written   the call runs on a stack of its own that is filled with a pattern, once with each of two; the lowest byte that
  *             has changed says how deep it wrote
@@ -204,7 +204,7 @@ static size_t pixels_now(void)
 
 static size_t cells_now(void)
 {
-    return now.kind >= 9 ? 3 * pixels_now() : 0;
+    return now.kind >= BADGE_ATKINSON ? 3 * pixels_now() : 0;
 }
 
 static void call_candidate_colors_in(void)
@@ -251,7 +251,7 @@ static void over_components(bool by_steps)
 /* All kinds and shifts, and one more of each, which is refused. */
 static void over_kinds(bool by_steps)
 {
-    for (now.kind = 0; now.kind <= 11; now.kind++)
+    for (now.kind = BADGE_OFF; now.kind <= BADGE_FLOYD_STEINBERG + 1; now.kind++)
         for (now.shift = 3; now.shift <= (by_steps ? 3 : 6); now.shift++) {
             now.component = (float)(now.kind % 2);
             measure(by_steps);
