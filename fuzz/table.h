@@ -26,6 +26,16 @@ static inline bool has_matrix(uint32_t kind)
     return kind >= BADGE_BAYER_2X2 && kind <= BADGE_LINE_H;
 }
 
+/* The number of a call that asks a kind for its threshold, where some length may be wrong besides. */
+static inline uint32_t matrix_number(uint32_t kind, bool length)
+{
+    if (kind_wrong(kind))
+        return BADGE_REFUSED_KIND_OR_SHIFT;
+    if (length)
+        return BADGE_REFUSED_LENGTH;
+    return has_matrix(kind) ? BADGE_ACCEPTED : BADGE_REFUSED_NO_MATRIX;
+}
+
 static inline bool shift_wrong(uint32_t shift)
 {
     return shift < 3 || shift > 5;
