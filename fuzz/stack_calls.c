@@ -28,7 +28,7 @@ void make_inputs(void)
 {
     for (unsigned v = 0; v < 256; v++) {
         reduction[v] = (uint8_t)(v >> 3);
-        scale[v] = (uint8_t)(v << 3 | (v & 31) >> 2);
+        scale[v] = (uint8_t)(v << 3 | v >> 2);
     }
     for (size_t i = 0; i < sizeof palette; i++)
         palette[i] = i % 4 == 3 ? 255 : (uint8_t)below(32);

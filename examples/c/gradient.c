@@ -20,7 +20,7 @@ static void make_tables(void)
 {
     for (unsigned v = 0; v < 256; v++) {
         reduction[v] = (uint8_t)(v >> 3);
-        scale[v] = (uint8_t)(v << 3 | (v & 31) >> 2);
+        scale[v] = (uint8_t)(v << 3 | v >> 2);
     }
 }
 
