@@ -30,7 +30,8 @@ pub extern "C" fn record_stack(letter: u8, again: bool, room: &[u8]) -> bool {
 END
     { sed -n 's/^record_cases:/record_again:/p' "$root/crates.txt" && echo "record_stack: record_cases record_again"; } \
         >>"$made/crates.txt"
-    (cd "$made" && rt staticlib record_stack) >"$built/records.log" 2>&1 || die "the lookups were not compiled: $built/records.log"
+    (cd "$made" && rt staticlib record_stack) >"$built/records.log" 2>&1 \
+        || die "the lookups were not compiled: $built/records.log"
 
     lookups=$built/librecords.a
     set --
