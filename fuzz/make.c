@@ -7,8 +7,8 @@
 uint32_t make_kind(void)
 {
     if (once_in(25))
-        return once_in(2) ? 11 : (uint32_t)random_bits();
-    return (uint32_t)below(11);
+        return once_in(2) ? BADGE_FLOYD_STEINBERG + 1 : (uint32_t)random_bits();
+    return (uint32_t)below(BADGE_FLOYD_STEINBERG + 1);
 }
 
 uint32_t make_shift(void)

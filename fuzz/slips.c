@@ -2,6 +2,7 @@
  * Shows that the fuzz can fail: linked with --wrap, each call below goes to the archive and then makes the slip whose number
  * the variable SLIP has. With no such variable nothing is changed.
  */
+#include <stdbool.h>
 #include <stdlib.h>
 
 #include "badge_dither.h"
@@ -49,15 +50,16 @@ uint32_t __wrap_badge_quantize_pixels(QUANTIZE)
     uint32_t number = __real_badge_quantize_pixels(shift, kind, width, height, reduction, reduction_len, scale, scale_len,
                                                    palette, palette_len, pixels, pixels_len, indices, indices_len, out,
                                                    out_len, cells, cells_len);
+    bool accepted = number == BADGE_ACCEPTED, length = number == BADGE_REFUSED_LENGTH;
     switch (slip()) {
     case 1: if (pixels_len) read_byte(pixels + pixels_len); break; /* reads after a buffer */
-    case 2: if (palette_len) read_byte(palette - 1); break;       /* reads before one */
-    case 3: if (out_len) write_again(out + out_len); break;       /* writes after one */
-    case 4: if (number == 0) write_again(reduction); break;       /* writes to an input */
-    case 5: if (number == 3 && out_len) out[0] ^= 1; break;       /* changes a buffer where it refuses */
-    case 6: if (number == 3) number = 4; break;                   /* another number */
-    case 7: if (number == 0 && cells_len) cells[0] = -0.0f; break;
-    case 8: if (number == 0 && indices_len) indices[indices_len - 1] ^= 1; break;
+    case 2: if (palette_len) read_byte(palette - 1); break;        /* reads before one */
+    case 3: if (out_len) write_again(out + out_len); break;        /* writes after one */
+    case 4: if (accepted) write_again(reduction); break;           /* writes to an input */
+    case 5: if (length && out_len) out[0] ^= 1; break;             /* changes a buffer where it refuses */
+    case 6: if (length) number = BADGE_REFUSED_ENTRIES; break;     /* another number */
+    case 7: if (accepted && cells_len) cells[0] = -0.0f; break;
+    case 8: if (accepted && indices_len) indices[indices_len - 1] ^= 1; break;
     default: break;
     }
     return number;
@@ -69,15 +71,17 @@ uint32_t __wrap_badge_dither_to_mode(TO_MODE)
         shift, kind, width, height, origin_x, origin_y, tile_width, tile_height, limit, has_zero, zero_r, zero_g, zero_b,
         zero_a, reduction, reduction_len, scale, scale_len, pixels, pixels_len, places, places_len, oklab, oklab_len, out,
         out_len, cells, cells_len, count, tile);
+    bool accepted = number == BADGE_ACCEPTED, over = number == BADGE_REFUSED_TILE_OVER;
+    bool many = number == BADGE_REFUSED_TOO_MANY_CANDIDATES;
     switch (slip()) {
-    case 9: if (number == 7 && places_len) places[places_len - 1] = 1; break; /* does not clear all after 7 */
-    case 10: if (number == 8 && cells_len) cells[cells_len - 1] = 1.0f; break; /* nor after 8 */
-    case 11: if (number == 8 && places_len) places[places_len - 1] ^= 1; break;
-    case 12: if (number == 7) *count = 0; break;                  /* writes behind a pointer where it refuses */
-    case 13: if (number == 0) *tile ^= 1; break;
-    case 14: if (number == 8) *tile = 0xffffffffu; break;         /* invents a tile */
-    case 15: if (number == 8) number = 10; break;                 /* a number that there is not */
-    case 16: if (number == 0 && oklab_len) oklab[oklab_len - 1] += 1.0f; break;
+    case 9: if (many && places_len) places[places_len - 1] = 1; break;  /* does not clear all that it has to */
+    case 10: if (over && cells_len) cells[cells_len - 1] = 1.0f; break; /* nor here */
+    case 11: if (over && places_len) places[places_len - 1] ^= 1; break;
+    case 12: if (many) *count = 0; break;                               /* writes behind a pointer where it refuses */
+    case 13: if (accepted) *tile ^= 1; break;
+    case 14: if (over) *tile = 0xffffffffu; break;                      /* invents a tile */
+    case 15: if (over) number = 1000; break;                            /* a number that there is not */
+    case 16: if (accepted && oklab_len) oklab[oklab_len - 1] += 1.0f; break;
     default: break;
     }
     return number;

@@ -1,62 +1,25 @@
 /*
- * Measures how much stack each of the twelve calls takes, over inputs of every path: all kinds and shifts, palettes of 256
- * entries, lists of 65,536, refusals from 1 to 9. Two ways:
+ * Measures how much stack calls take (stack.h), in two ways:
  *
  *   written   the call runs on a stack of its own that is filled with a pattern, once with each of two; the lowest byte that
  *             has changed says how deep it wrote
  *   reserved  the call runs one instruction at a time, and the lowest stack pointer says how far it reached down, written or
- *             not; on smaller pictures, since it is slow
+ *             not; on smaller inputs, since it is slow
  *
  * Both count from the frame of the caller, so the arguments that go over the stack are in them. Ends with a failure where a
  * call takes more than 16 KiB. x86-64 Linux.
  */
 #define _GNU_SOURCE
+#include "stack.h"
+
 #include <signal.h>
-#include <stdbool.h>
 #include <stdio.h>
 #include <stdlib.h>
 #include <string.h>
 #include <sys/mman.h>
 #include <ucontext.h>
 
-#include "badge_dither.h"
-#include "random.h"
-
-enum { BOUND = 16384, ENTRIES = 65536, SIDE = 64, PIXELS = SIDE * SIDE, ROOM = 1 << 18 };
-
-uint64_t random_state = 1;
-
-/* ---- what is lent */
-
-static uint8_t reduction[256], scale[256], palette[4 * 256], pixels[4 * PIXELS], indices[PIXELS], out[4 * PIXELS];
-static uint8_t places[4 * ENTRIES], colors[4 * ENTRIES], dark[4], light[4] = {31, 31, 31, 255}, chosen[4];
-static float cells[3 * PIXELS], oklab[3 * ENTRIES], list_oklab[3 * ENTRIES];
-
-static struct {
-    uint32_t kind, shift, side, limit, tile_side, has_zero;
-    size_t entries, places;
-    uint8_t r, g, b;
-    float component;
-} now;
-
-static void make_inputs(void)
-{
-    for (unsigned v = 0; v < 256; v++) {
-        reduction[v] = (uint8_t)(v >> 3);
-        scale[v] = (uint8_t)(v << 3 | (v & 31) >> 2);
-    }
-    for (size_t i = 0; i < sizeof palette; i++)
-        palette[i] = i % 4 == 3 ? 255 : (uint8_t)below(32);
-    for (size_t i = 0; i < sizeof pixels; i++)
-        pixels[i] = i % 4 == 3 && !once_in(8) ? 255 : random_byte();
-    for (size_t i = 0; i < sizeof colors; i++)
-        colors[i] = random_byte();
-    for (size_t i = 0; i < ENTRIES; i++)
-        badge_to_oklab(colors[4 * i], colors[4 * i + 1], colors[4 * i + 2], list_oklab + 3 * i, list_oklab + 3 * i + 1,
-                       list_oklab + 3 * i + 2);
-}
-
-/* ---- a call on a stack of its own */
+enum { BOUND = 16384, ROOM = 1 << 18 };
 
 static uint8_t *room;             /* the stack */
 static uint8_t *frame;            /* the caller's frame on it */
@@ -130,8 +93,7 @@ static size_t larger(size_t a, size_t b)
     return a > b ? a : b;
 }
 
-/* Measures the call as things stand. */
-static void measure(bool by_steps)
+void measure(bool by_steps)
 {
     if (by_steps) {
         most.reserved = larger(most.reserved, reserved());
@@ -141,184 +103,6 @@ static void measure(bool by_steps)
     most.written = larger(most.written, larger(written_with(0xa5), written_with(0x5a)));
     most.cases++;
 }
-
-/* ---- the calls, with what is lent */
-
-static uint32_t u32_out, u32_other;
-static uint64_t u64_out;
-static float f32_out[3];
-static volatile float kept;
-
-static void call_to_oklab(void)
-{
-    badge_to_oklab(now.r, now.g, now.b, f32_out, f32_out + 1, f32_out + 2);
-}
-
-static void call_oklab_sqdist(void)
-{
-    badge_oklab_sqdist(now.component, 1, -1, 0, -1, 1, f32_out);
-}
-
-static void call_ordered_threshold(void)
-{
-    badge_ordered_threshold(now.kind, 5, 3, f32_out);
-}
-
-static void call_bracket_width(void)
-{
-    badge_bracket_width(now.shift, now.limit, &u64_out);
-}
-
-static void call_lerp(void)
-{
-    kept = badge_lerp(0, 0, 0, 200, 100, 50, now.r, now.g, now.b, now.has_zero);
-}
-
-static void call_nearest(void)
-{
-    badge_nearest(colors, 4 * now.entries, colors, 4 * now.entries, list_oklab, 3 * now.entries, now.r, now.g, now.b,
-                  &u32_out);
-}
-
-static void call_nearest_two(void)
-{
-    badge_nearest_two(colors, 4 * now.entries, colors, 4 * now.entries, list_oklab, 3 * now.entries, now.r, now.g, now.b, 16,
-                      &u32_out, &u32_other);
-}
-
-static void call_ordered_bracket(void)
-{
-    badge_ordered_bracket(colors, 4 * now.entries, colors, 4 * now.entries, list_oklab, 3 * now.entries, now.r, now.g, now.b,
-                          16, dark, 4, light, 4, f32_out);
-}
-
-static void call_pick(void)
-{
-    badge_pick(dark, 4, light, 4, now.component, now.kind, 1, 2, chosen, 4);
-}
-
-static size_t pixels_now(void)
-{
-    return (size_t)now.side * now.side;
-}
-
-static size_t cells_now(void)
-{
-    return now.kind >= 9 ? 3 * pixels_now() : 0;
-}
-
-static void call_candidate_colors_in(void)
-{
-    badge_candidate_colors_in(now.shift, now.side, now.side, reduction, 256, scale, 256, pixels, 4 * pixels_now(), places,
-                              4 * now.places, oklab, 3 * now.places, &u32_out);
-}
-
-static void call_quantize_pixels(void)
-{
-    badge_quantize_pixels(now.shift, now.kind, now.side, now.side, reduction, 256, scale, 256, palette, 4 * now.entries, pixels,
-                          4 * pixels_now(), indices, pixels_now(), out, 4 * pixels_now(), cells, cells_now());
-}
-
-static void call_dither_to_mode(void)
-{
-    badge_dither_to_mode(now.shift, now.kind, now.side, now.side, 3, 5, now.tile_side, now.tile_side, now.limit, now.has_zero,
-                         reduction[pixels[0]], reduction[pixels[1]], reduction[pixels[2]], 255, reduction, 256, scale, 256,
-                         pixels, 4 * pixels_now(), places, 4 * now.places, oklab, 3 * now.places, out, 4 * pixels_now(), cells,
-                         cells_now(), &u32_out, &u32_other);
-}
-
-/* ---- what each is measured over */
-
-static void over_colors(bool by_steps)
-{
-    static const uint8_t some[][3] = {{0, 0, 0}, {255, 255, 255}, {1, 0, 0}, {0, 0, 255}, {200, 30, 99}, {128, 128, 128}};
-    for (size_t i = 0; i < 6; i++) {
-        now.r = some[i][0], now.g = some[i][1], now.b = some[i][2];
-        now.has_zero = i & 1;
-        measure(by_steps);
-    }
-}
-
-static void over_components(bool by_steps)
-{
-    static const float some[] = {0.0f, 2.0f, 3.0f};
-    for (size_t i = 0; i < 3; i++) {
-        now.component = some[i];
-        measure(by_steps);
-    }
-}
-
-/* All kinds and shifts, and one more of each, which is refused. */
-static void over_kinds(bool by_steps)
-{
-    for (now.kind = 0; now.kind <= 11; now.kind++)
-        for (now.shift = 3; now.shift <= (by_steps ? 3 : 6); now.shift++) {
-            now.component = (float)(now.kind % 2);
-            measure(by_steps);
-        }
-}
-
-static void over_lists(bool by_steps)
-{
-    static const size_t some[] = {0, 1, 2, 40, 300, ENTRIES};
-    for (size_t i = 0; i < (by_steps ? 4 : 6); i++) {
-        now.entries = some[i];
-        over_colors(by_steps);
-    }
-}
-
-static void over_palettes(bool by_steps)
-{
-    static const size_t some[] = {256, 1, 0};
-    for (size_t i = 0; i < (by_steps ? 1 : 3); i++) {
-        now.entries = some[i];
-        over_kinds(by_steps);
-    }
-}
-
-/* Room for all candidates and for too few. */
-static void over_rooms(bool by_steps)
-{
-    for (now.shift = 3; now.shift <= (by_steps ? 3 : 6); now.shift++)
-        for (int few = 0; few < 2; few++) {
-            now.places = few ? 2 : ENTRIES;
-            measure(by_steps);
-        }
-}
-
-/* Accepted, with and without colour zero; over the limit; without room; with tiles that cannot be. */
-static void over_modes(bool by_steps)
-{
-    static const struct {
-        uint32_t limit, tile_side, has_zero;
-        size_t places;
-    } some[] = {{256, 8, 0, ENTRIES}, {256, 8, 1, ENTRIES}, {256, 64, 1, ENTRIES}, {8, 8, 0, ENTRIES}, {8, 8, 0, 2},
-                {257, 0, 0, ENTRIES}};
-    for (size_t i = 0; i < 6; i += by_steps ? 3 : 1) {
-        now.limit = some[i].limit, now.tile_side = some[i].tile_side;
-        now.has_zero = some[i].has_zero, now.places = some[i].places;
-        over_kinds(by_steps);
-    }
-}
-
-static const struct {
-    const char *name;
-    void (*call)(void);
-    void (*over)(bool by_steps);
-} CALLS[12] = {
-    {"badge_to_oklab", call_to_oklab, over_colors},
-    {"badge_oklab_sqdist", call_oklab_sqdist, over_components},
-    {"badge_ordered_threshold", call_ordered_threshold, over_kinds},
-    {"badge_bracket_width", call_bracket_width, over_kinds},
-    {"badge_lerp", call_lerp, over_colors},
-    {"badge_nearest", call_nearest, over_lists},
-    {"badge_nearest_two", call_nearest_two, over_lists},
-    {"badge_ordered_bracket", call_ordered_bracket, over_lists},
-    {"badge_pick", call_pick, over_kinds},
-    {"badge_candidate_colors_in", call_candidate_colors_in, over_rooms},
-    {"badge_quantize_pixels", call_quantize_pixels, over_palettes},
-    {"badge_dither_to_mode", call_dither_to_mode, over_modes},
-};
 
 static void prepare(void)
 {
@@ -338,15 +122,13 @@ int main(void)
     bool within = true;
     prepare();
     printf("%-28s%8s%10s%8s%10s\n", "call", "cases", "written", "cases", "reserved");
-    for (size_t k = 0; k < 12; k++) {
+    for (size_t k = 0; k < measured_count; k++) {
         memset(&most, 0, sizeof most);
-        call = CALLS[k].call;
-        now.side = SIDE;
-        CALLS[k].over(false);
-        now.side = 3;
-        CALLS[k].over(true);
+        call = measured[k].call;
+        measured[k].over(false);
+        measured[k].over(true);
         within = within && most.written <= BOUND && most.reserved <= BOUND;
-        printf("%-28s%8u%10zu%8u%10zu\n", CALLS[k].name, most.cases, most.written, most.steps, most.reserved);
+        printf("%-28s%8u%10zu%8u%10zu\n", measured[k].name, most.cases, most.written, most.steps, most.reserved);
         fflush(stdout);
     }
     puts(within ? "each call takes at most 16,384 bytes of stack" : "a call takes more than 16,384 bytes of stack");

@@ -1,6 +1,6 @@
 /*
- * The scope document's table of refusals, as tests of their own: what each number is said for, except 7 and 8, which depend
- * on the picture.
+ * The scope document's table of refusals, as tests of their own: what each is said for, except too many candidates and a tile
+ * over its limit, which depend on the picture.
  */
 #ifndef TABLE_H
 #define TABLE_H
@@ -9,19 +9,31 @@
 #include <stddef.h>
 #include <stdint.h>
 
+#include "badge_dither.h"
+
 static inline bool kind_wrong(uint32_t kind)
 {
-    return kind > 10;
+    return kind > BADGE_FLOYD_STEINBERG;
 }
 
 static inline bool is_diffusion(uint32_t kind)
 {
-    return kind == 9 || kind == 10;
+    return kind == BADGE_ATKINSON || kind == BADGE_FLOYD_STEINBERG;
 }
 
 static inline bool has_matrix(uint32_t kind)
 {
-    return kind >= 1 && kind <= 8;
+    return kind >= BADGE_BAYER_2X2 && kind <= BADGE_LINE_H;
+}
+
+/* The number of a call that asks a kind for its threshold, where some length may be wrong besides. */
+static inline uint32_t matrix_number(uint32_t kind, bool length)
+{
+    if (kind_wrong(kind))
+        return BADGE_REFUSED_KIND_OR_SHIFT;
+    if (length)
+        return BADGE_REFUSED_LENGTH;
+    return has_matrix(kind) ? BADGE_ACCEPTED : BADGE_REFUSED_NO_MATRIX;
 }
 
 static inline bool shift_wrong(uint32_t shift)

@@ -2,21 +2,10 @@
  * The badge dither: SuperFamiconv's dithering behind a C interface. Link with libexports.a, which `rt staticlib exports`
  * writes.
  *
- * Numbers. A call that can refuse returns 0 where it accepts, and otherwise the lowest number that applies:
- *
- *   1  a kind above 10, or a shift that is not 3, 4 or 5
- *   2  a picture that is too large: a side above 4,096, or more than 1,048,576 pixels, or an origin and a side that add up
- *      to more than 4,294,967,295
- *   3  a length that is wrong, or that does not fit the others
- *   4  a palette that is empty or has more than 256 entries, or a list that is empty or has more than 65,536
- *   5  a tile side that is not from 1 to 4,096, or a limit above 256
- *   6  an Oklab component that is not from -2 to 2 (NaN is not)
- *   7  more candidates than places for them
- *   8  a tile that is over its limit
- *   9  a threshold or a pick asked of a kind that has no matrix: 0, 9 or 10
- *
- * A call can be refused with the numbers that its comment names and no others. A refusal changes nothing: what is behind a
- * pointer and what is in a buffer is as it was, unless the call's comment says otherwise.
+ * Numbers. Kinds and refusals are numbers, which `enum badge_kind` and `enum badge_refusal` name; a call takes any number as a
+ * kind. A call that can refuse returns 0, BADGE_ACCEPTED, where it accepts, and otherwise the lowest number that applies. It
+ * can be refused with the numbers that its comment names, without their BADGE_REFUSED_, and with no others. A refusal changes
+ * nothing: what is behind a pointer and what is in a buffer is as it was, unless the call's comment says otherwise.
  *
  * Buffers. A buffer is a pointer and, after it, a length that counts elements: bytes of a uint8_t buffer, floats of a float
  * buffer. The pointer may be null where the length is 0. A pointer to a single value is never null. What a call writes must
@@ -25,11 +14,6 @@
  *
  * Colours. A colour in a buffer is four bytes: red, green, blue, alpha. A reduced colour has a console's own precision, a
  * normalised one is the same colour from 0 to 255. An Oklab colour is three floats: lightness, a, b.
- *
- * Kinds of dithering, by number:
- *
- *   0 off          1 Bayer 2x2    2 Bayer 4x4         3 Bayer 8x8    4 checker    5 vertical stipple
- *   6 horizontal stipple          7 vertical lines    8 horizontal lines          9 Atkinson    10 Floyd-Steinberg
  */
 #ifndef BADGE_DITHER_H
 #define BADGE_DITHER_H
@@ -41,6 +25,49 @@
 extern "C" {
 #endif
 
+/* The kinds of dithering. */
+enum badge_kind {
+    BADGE_OFF = 0, /* none: the nearest colour */
+
+    /* the ordered kinds, each with a matrix of thresholds */
+    BADGE_BAYER_2X2 = 1,
+    BADGE_BAYER_4X4 = 2,
+    BADGE_BAYER_8X8 = 3,
+    BADGE_CHECKER = 4,
+    BADGE_STIPPLE_V = 5, /* vertical stipple */
+    BADGE_STIPPLE_H = 6, /* horizontal stipple */
+    BADGE_LINE_V = 7,    /* vertical lines */
+    BADGE_LINE_H = 8,    /* horizontal lines */
+
+    /* the diffusing kinds, which pass error on to later pixels */
+    BADGE_ATKINSON = 9,
+    BADGE_FLOYD_STEINBERG = 10
+};
+
+/* What a call that can refuse returns. */
+enum badge_refusal {
+    BADGE_ACCEPTED = 0,
+    /* a kind that there is not, or a shift that is not 3, 4 or 5 */
+    BADGE_REFUSED_KIND_OR_SHIFT = 1,
+    /* a picture that is too large: a side above 4,096, or more than 1,048,576 pixels, or an origin and a side that add up to
+       more than 4,294,967,295 */
+    BADGE_REFUSED_SIZE = 2,
+    /* a length that is wrong, or that does not fit the others */
+    BADGE_REFUSED_LENGTH = 3,
+    /* a palette that is empty or has more than 256 entries, or a list that is empty or has more than 65,536 */
+    BADGE_REFUSED_ENTRIES = 4,
+    /* a tile side that is not from 1 to 4,096, or a limit above 256 */
+    BADGE_REFUSED_TILES = 5,
+    /* an Oklab component that is not from -2 to 2 (NaN is not) */
+    BADGE_REFUSED_COMPONENT = 6,
+    /* more candidates than places for them */
+    BADGE_REFUSED_TOO_MANY_CANDIDATES = 7,
+    /* a tile that is over its limit */
+    BADGE_REFUSED_TILE_OVER = 8,
+    /* a threshold or a pick asked of a kind that is not ordered */
+    BADGE_REFUSED_NO_MATRIX = 9
+};
+
 /*
  * The Oklab colour of a colour (r, g, b), each component rounded to a whole number of millionths and then to a float.
  * Writes lightness, a and b. It never refuses.
@@ -49,21 +76,21 @@ void badge_to_oklab(uint8_t r, uint8_t g, uint8_t b, float *lightness, float *ou
 
 /*
  * The squared distance of the Oklab colours (l1, a1, b1) and (l2, a2, b2), in which the squares of a and b count 2.15 times.
- * Accepts: writes the distance. Refuses: 6.
+ * Accepts: writes the distance. Refuses: COMPONENT.
  */
 uint32_t badge_oklab_sqdist(float l1, float a1, float b1, float l2, float a2, float b2, float *distance);
 
 /*
- * The threshold of an ordered kind (1 to 8) at column x and row y, both reduced to the size of the kind's matrix; it lies
- * between 0 and 1.
- * Accepts: writes the threshold. Refuses: 1 (the kind), 9.
+ * The threshold of an ordered kind at column x and row y, both reduced to the size of the kind's matrix; it lies between 0
+ * and 1.
+ * Accepts: writes the threshold. Refuses: KIND_OR_SHIFT (the kind), NO_MATRIX.
  */
 uint32_t badge_ordered_threshold(uint32_t kind, uint32_t x, uint32_t y, float *threshold);
 
 /*
  * How many candidates beside the nearest are considered for a mix: max * shift / 16, rounded with halves up, at least 1 and
  * at most 16. max is the number of colours of a palette or of a tile, and may be any number.
- * Accepts: writes the width. Refuses: 1 (the shift).
+ * Accepts: writes the width. Refuses: KIND_OR_SHIFT (the shift).
  */
 uint32_t badge_bracket_width(uint32_t shift, uint64_t max, uint64_t *width);
 
@@ -77,13 +104,13 @@ float badge_lerp(uint8_t r1, uint8_t g1, uint8_t b1, uint8_t r2, uint8_t g2, uin
 /*
  * The lookups below choose from a list of 1 to 65,536 candidates, numbered from 0. It is lent as three buffers that are only
  * read: reduced and normalized hold four bytes an entry, oklab three floats an entry. They choose for the colour (r, g, b),
- * by squared distance in Oklab. They are refused with 3 where the three lengths do not belong to one number of entries, with
- * 4 where that number is 0 or above 65,536, and with 6 where some component of oklab is not from -2 to 2.
+ * by squared distance in Oklab. They are refused with LENGTH where the three lengths do not belong to one number of entries,
+ * with ENTRIES where that number is 0 or above 65,536, and with COMPONENT where some component of oklab is not from -2 to 2.
  */
 
 /*
  * The entry that is nearest to the colour, the first of equals.
- * Accepts: writes its position. Refuses: 3, 4, 6.
+ * Accepts: writes its position. Refuses: LENGTH, ENTRIES, COMPONENT.
  */
 uint32_t badge_nearest(const uint8_t *reduced, size_t reduced_len, const uint8_t *normalized, size_t normalized_len,
                        const float *oklab, size_t oklab_len, uint8_t r, uint8_t g, uint8_t b, uint32_t *position);
@@ -94,7 +121,7 @@ uint32_t badge_nearest(const uint8_t *reduced, size_t reduced_len, const uint8_t
  * another entry. Of those that the colour lies beside (a share from 0 to 1, see badge_lerp) the one whose mix comes nearest
  * to the colour is taken, the first of equals; if there is none, the first of all considered.
  * Accepts: writes the positions of the first and the second. A list of one entry has no second: then both are the same.
- * Refuses: 3, 4, 6.
+ * Refuses: LENGTH, ENTRIES, COMPONENT.
  */
 uint32_t badge_nearest_two(const uint8_t *reduced, size_t reduced_len, const uint8_t *normalized, size_t normalized_len,
                            const float *oklab, size_t oklab_len, uint8_t r, uint8_t g, uint8_t b, uint64_t width,
@@ -104,7 +131,7 @@ uint32_t badge_nearest_two(const uint8_t *reduced, size_t reduced_len, const uin
  * The two colours that an ordered dither alternates between for the colour: those of badge_nearest_two, the darker one
  * first, and the share of the lighter one in the mix, from 0 to 1. A list of one entry gives the same colour twice, and 0.
  * Accepts: writes the two reduced colours into dark and light, four bytes each, and the share behind ratio.
- * Refuses: 3 (also where dark or light is not 4 long), 4, 6.
+ * Refuses: LENGTH (also where dark or light is not 4 long), ENTRIES, COMPONENT.
  */
 uint32_t badge_ordered_bracket(const uint8_t *reduced, size_t reduced_len, const uint8_t *normalized, size_t normalized_len,
                                const float *oklab, size_t oklab_len, uint8_t r, uint8_t g, uint8_t b, uint64_t width,
@@ -114,7 +141,8 @@ uint32_t badge_ordered_bracket(const uint8_t *reduced, size_t reduced_len, const
  * Which of two colours stands at column x and row y: light, if the two differ in some byte and ratio exceeds the threshold
  * of the kind there, and else dark. ratio may be any float; a NaN exceeds nothing.
  * Accepts: writes the colour into chosen, four bytes.
- * Refuses: 1 (the kind), 3 (dark, light or chosen is not 4 long), 9 (also where the two colours are the same).
+ * Refuses: KIND_OR_SHIFT (the kind), LENGTH (dark, light or chosen is not 4 long), NO_MATRIX (also where the two colours are
+ * the same).
  */
 uint32_t badge_pick(const uint8_t *dark, size_t dark_len, const uint8_t *light, size_t light_len, float ratio,
                     uint32_t kind, uint32_t x, uint32_t y, uint8_t *chosen, size_t chosen_len);
@@ -134,8 +162,8 @@ uint32_t badge_pick(const uint8_t *dark, size_t dark_len, const uint8_t *light, 
  * Lengths: reduction and scale 256; pixels 4 a pixel; places 4 a place; oklab 3 a place. Only places and oklab are written.
  * Accepts: writes the candidates and their Oklab colours to the front of places and oklab, and how many they are behind
  * count. Places after them are as they were, in both.
- * Refuses: 1 (the shift), 2, 3 (also for more than 65,536 places), 7. After 7 all of places is 0; oklab and what is behind
- * count are as they were.
+ * Refuses: KIND_OR_SHIFT (the shift), SIZE, LENGTH (also for more than 65,536 places), TOO_MANY_CANDIDATES. After
+ * TOO_MANY_CANDIDATES all of places is 0; oklab and what is behind count are as they were.
  */
 uint32_t badge_candidate_colors_in(uint32_t shift, uint32_t width, uint32_t height,
                                    const uint8_t *reduction, size_t reduction_len, const uint8_t *scale, size_t scale_len,
@@ -143,17 +171,18 @@ uint32_t badge_candidate_colors_in(uint32_t shift, uint32_t width, uint32_t heig
                                    float *oklab, size_t oklab_len, uint32_t *count);
 
 /*
- * Dithers a picture to a palette of 1 to 256 reduced colours. Each pixel that is not transparent chooses an entry: kind 0
- * the nearest; kinds 1 to 8 one of the two of badge_ordered_bracket, as badge_pick does, where x and y count from the
- * picture's corner and the width is badge_bracket_width of the shift and the number of entries; kinds 9 and 10 the nearest to
- * the colour with the error that earlier pixels passed on to it. A picture without pixels is accepted.
+ * Dithers a picture to a palette of 1 to 256 reduced colours. Each pixel that is not transparent chooses an entry: with
+ * BADGE_OFF the nearest; with an ordered kind one of the two of badge_ordered_bracket, as badge_pick does, where x and y
+ * count from the picture's corner and the width is badge_bracket_width of the shift and the number of entries; with a
+ * diffusing kind the nearest to the colour with the error that earlier pixels passed on to it. A picture without pixels is
+ * accepted.
  *
- * Lengths: reduction and scale 256; palette 4 an entry; pixels and out 4 a pixel; indices 1 a pixel; cells 3 a pixel for
- * kinds 9 and 10, else 0. Only indices, out and cells are written.
+ * Lengths: reduction and scale 256; palette 4 an entry; pixels and out 4 a pixel; indices 1 a pixel; cells 3 a pixel for a
+ * diffusing kind, else 0. Only indices, out and cells are written.
  * Accepts: writes into indices the position of the first entry that equals the colour chosen, and into out that colour,
  * normalised; a transparent pixel gets 0 and four zeros. cells then holds the error that was passed on to each pixel, in
  * red, green and blue, whatever was there before.
- * Refuses: 1 (the kind or the shift), 2, 3, 4 (the palette).
+ * Refuses: KIND_OR_SHIFT, SIZE, LENGTH, ENTRIES (the palette).
  */
 uint32_t badge_quantize_pixels(uint32_t shift, uint32_t kind, uint32_t width, uint32_t height,
                                const uint8_t *reduction, size_t reduction_len, const uint8_t *scale, size_t scale_len,
@@ -173,13 +202,13 @@ uint32_t badge_quantize_pixels(uint32_t shift, uint32_t kind, uint32_t width, ui
  * colours than that.
  *
  * Lengths: reduction and scale 256; pixels and out 4 a pixel; places 4 a place, for 0 to 65,536 of them; oklab 3 a place;
- * cells 3 a pixel for kinds 9 and 10, else 0. Only places, oklab, out and cells are written.
+ * cells 3 a pixel for a diffusing kind, else 0. Only places, oklab, out and cells are written.
  * Accepts: writes the candidates to the front of places and oklab, as badge_candidate_colors_in does, the chosen colours,
  * normalised, into out (four zeros for a transparent pixel), and how many candidates there are behind count. cells then holds
  * the error that was passed on to each pixel, whatever was there before. What is behind tile is as it was.
- * Refuses: 1 (the kind or the shift), 2, 3 (also for more than 65,536 places), 5, 7, 8. After 7 all of places is 0 and the
- * rest as it was. After 8 places, oklab and what is behind count are as on acceptance, out and cells are all 0, and the number
- * of the first tile over its limit is behind tile.
+ * Refuses: KIND_OR_SHIFT, SIZE, LENGTH (also for more than 65,536 places), TILES, TOO_MANY_CANDIDATES, TILE_OVER. After
+ * TOO_MANY_CANDIDATES all of places is 0 and the rest as it was. After TILE_OVER places, oklab and what is behind count are
+ * as on acceptance, out and cells are all 0, and the number of the first tile over its limit is behind tile.
  */
 uint32_t badge_dither_to_mode(uint32_t shift, uint32_t kind, uint32_t width, uint32_t height,
                               uint32_t origin_x, uint32_t origin_y, uint32_t tile_width, uint32_t tile_height, uint32_t limit,

@@ -10,7 +10,7 @@
 
 #define COUNT(array) (sizeof(array) / sizeof((array)[0]))
 
-enum { WIDTH = 48, HEIGHT = 16, PIXELS = WIDTH * HEIGHT, PLACES = 32, SHIFT = 3, OFF = 0 };
+enum { WIDTH = 48, HEIGHT = 16, PIXELS = WIDTH * HEIGHT, PLACES = 32, SHIFT = 3 };
 
 static uint8_t reduction[256], scale[256];
 static uint8_t pixels[4 * PIXELS];
@@ -20,7 +20,7 @@ static void make_tables(void)
 {
     for (unsigned v = 0; v < 256; v++) {
         reduction[v] = (uint8_t)(v >> 3);
-        scale[v] = (uint8_t)(v << 3 | (v & 31) >> 2);
+        scale[v] = (uint8_t)(v << 3 | v >> 2);
     }
 }
 
@@ -54,12 +54,12 @@ static int show_kind(const char *name, uint32_t kind)
     static const uint8_t palette[] = {0, 0, 0, 255, 10, 10, 10, 255, 21, 21, 21, 255, 31, 31, 31, 255};
     static uint8_t indices[PIXELS], out[4 * PIXELS];
     static float cells[3 * PIXELS];
-    size_t cells_len = kind == 9 || kind == 10 ? COUNT(cells) : 0;
+    size_t cells_len = kind == BADGE_ATKINSON || kind == BADGE_FLOYD_STEINBERG ? COUNT(cells) : 0;
 
     uint32_t number = badge_quantize_pixels(SHIFT, kind, WIDTH, HEIGHT, reduction, COUNT(reduction), scale, COUNT(scale),
                                             palette, COUNT(palette), pixels, COUNT(pixels), indices, COUNT(indices),
                                             out, COUNT(out), cells_len ? cells : NULL, cells_len);
-    if (number != 0) {
+    if (number != BADGE_ACCEPTED) {
         printf("%s: refused with %u\n", name, (unsigned)number);
         return 1;
     }
@@ -75,12 +75,12 @@ static uint32_t show_mode(uint32_t limit)
     static float oklab[3 * PLACES];
     uint32_t count = 0, tile = 0;
 
-    uint32_t number = badge_dither_to_mode(SHIFT, OFF, WIDTH, HEIGHT, 0, 0, 8, 8, limit, 0, 0, 0, 0, 0, reduction,
+    uint32_t number = badge_dither_to_mode(SHIFT, BADGE_OFF, WIDTH, HEIGHT, 0, 0, 8, 8, limit, 0, 0, 0, 0, 0, reduction,
                                            COUNT(reduction), scale, COUNT(scale), pixels, COUNT(pixels), places,
                                            COUNT(places), oklab, COUNT(oklab), out, COUNT(out), NULL, 0, &count, &tile);
-    if (number == 0)
+    if (number == BADGE_ACCEPTED)
         printf("limit %u: %u candidates, every tile within its limit\n", (unsigned)limit, (unsigned)count);
-    else if (number == 8)
+    else if (number == BADGE_REFUSED_TILE_OVER)
         printf("limit %u: %u candidates, tile %u is over its limit\n", (unsigned)limit, (unsigned)count, (unsigned)tile);
     else
         printf("limit %u: refused with %u\n", (unsigned)limit, (unsigned)number);
@@ -92,14 +92,14 @@ int main(void)
     static const struct {
         const char *name;
         uint32_t kind;
-    } kinds[] = {{"off", OFF}, {"Bayer 4x4", 2}, {"checker", 4}, {"vertical lines", 7}, {"Atkinson", 9},
-                 {"Floyd-Steinberg", 10}};
+    } kinds[] = {{"off", BADGE_OFF}, {"Bayer 4x4", BADGE_BAYER_4X4}, {"checker", BADGE_CHECKER},
+                 {"vertical lines", BADGE_LINE_V}, {"Atkinson", BADGE_ATKINSON}, {"Floyd-Steinberg", BADGE_FLOYD_STEINBERG}};
     make_tables();
     make_picture();
     int failed = 0;
     for (size_t k = 0; k < COUNT(kinds); k++)
         failed |= show_kind(kinds[k].name, kinds[k].kind);
-    failed |= show_mode(8) != 0;
-    failed |= show_mode(4) != 8;
+    failed |= show_mode(8) != BADGE_ACCEPTED;
+    failed |= show_mode(4) != BADGE_REFUSED_TILE_OVER;
     return failed;
 }

@@ -1,9 +1,22 @@
 /*
- * A test of the header alone: it is included first and twice, and every function is named with the type that the archive has,
- * so that a declaration that does not fit is an error. Compiled both as C11 and as C++17.
+ * A test of the header alone: it is included first and twice, every constant has its number, and every function is named with
+ * the type that the archive has, so that a declaration that does not fit is an error. Compiled both as C11 and as C++17.
  */
 #include "badge_dither.h"
 #include "badge_dither.h"
+
+#include <assert.h>
+
+static_assert(BADGE_OFF == 0 && BADGE_BAYER_2X2 == 1 && BADGE_BAYER_4X4 == 2 && BADGE_BAYER_8X8 == 3 && BADGE_CHECKER == 4 &&
+                  BADGE_STIPPLE_V == 5 && BADGE_STIPPLE_H == 6 && BADGE_LINE_V == 7 && BADGE_LINE_H == 8 &&
+                  BADGE_ATKINSON == 9 && BADGE_FLOYD_STEINBERG == 10,
+              "the kinds in the original's order");
+
+static_assert(BADGE_ACCEPTED == 0 && BADGE_REFUSED_KIND_OR_SHIFT == 1 && BADGE_REFUSED_SIZE == 2 &&
+                  BADGE_REFUSED_LENGTH == 3 && BADGE_REFUSED_ENTRIES == 4 && BADGE_REFUSED_TILES == 5 &&
+                  BADGE_REFUSED_COMPONENT == 6 && BADGE_REFUSED_TOO_MANY_CANDIDATES == 7 && BADGE_REFUSED_TILE_OVER == 8 &&
+                  BADGE_REFUSED_NO_MATRIX == 9,
+              "the numbers of the scope document's table");
 
 typedef const uint8_t *bytes;
 typedef const float *floats;

@@ -18,7 +18,7 @@ fn print(name: &str, indices: &[u8]) {
 
 fn main() -> Result<(), Refusal> {
     let reduction: Vec<u8> = (0..=255).map(|v: u8| v >> 3).collect();
-    let scale: Vec<u8> = (0..=255).map(|v: u8| v << 3 | (v & 31) >> 2).collect();
+    let scale: Vec<u8> = (0..=255).map(|v: u8| v << 3 | v >> 2).collect();
     let tables = Tables { reduction: &reduction, scale: &scale };
 
     let grey = |i: usize| (i % WIDTH as usize * 255 / (WIDTH as usize - 1)) as u8;

@@ -1,5 +1,6 @@
-//! The kinds of dithering, by number. Calls take the number, and refuse one
-//! above 10 with [`Refusal::KindOrShift`](crate::Refusal::KindOrShift).
+//! The kinds of dithering, by number, under the C header's names without
+//! their `BADGE_`. Calls take the number, and refuse one above 10 with
+//! [`Refusal::KindOrShift`](crate::Refusal::KindOrShift).
 
 /// No dithering: the nearest colour.
 pub const OFF: u32 = 0;

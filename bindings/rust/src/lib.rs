@@ -16,7 +16,7 @@
 //!
 //! // Five bits a channel: reducing drops three bits, scaling repeats the upper ones.
 //! let reduction: Vec<u8> = (0..=255).map(|v: u8| v >> 3).collect();
-//! let scale: Vec<u8> = (0..=255).map(|v: u8| v << 3 | (v & 31) >> 2).collect();
+//! let scale: Vec<u8> = (0..=255).map(|v: u8| v << 3 | v >> 2).collect();
 //! let pixels = [0, 64, 128, 192, 255].map(|v| [v, v, v, 255]).concat();
 //! let palette = [[0, 0, 0, 255], [31, 31, 31, 255]].concat();
 //!

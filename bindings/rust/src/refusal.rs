@@ -1,4 +1,5 @@
-//! Why a call refuses, with the numbers of the scope document's table.
+//! Why a call refuses, with the numbers of the scope document's table and the
+//! C header's names: `KindOrShift` is its `BADGE_REFUSED_KIND_OR_SHIFT`.
 
 use std::fmt;
 

@@ -21,7 +21,7 @@ pub fn five_bits() -> FiveBits {
     let byte = |i: usize| i as u8;
     FiveBits {
         reduction: std::array::from_fn(|i| byte(i) >> 3),
-        scale: std::array::from_fn(|i| byte(i) << 3 | (byte(i) & 31) >> 2),
+        scale: std::array::from_fn(|i| byte(i) << 3 | byte(i) >> 2),
     }
 }
 

@@ -1,0 +1,126 @@
+/* What the three calls on pictures share. See picture.h. */
+#include "picture.h"
+
+#include <math.h>
+#include <stdlib.h>
+#include <string.h>
+
+#include "badge_dither.h"
+#include "held.h"
+#include "random.h"
+#include "table.h"
+
+Picture make_picture(void)
+{
+    Picture p = {.shift = make_shift(), .size = make_size()};
+    p.reduction = make_reduction(p.shift);
+    p.scale = make_scale(p.shift);
+    p.pixels = make_pixels(p.size.pixels);
+    return p;
+}
+
+bool picture_wrong(const Picture *p)
+{
+    return p->reduction->len != 256 || p->scale->len != 256
+           || p->pixels->len != (size_t)4 * p->size.width * p->size.height;
+}
+
+uint32_t reduced_key(const Picture *p, size_t pixel)
+{
+    const uint8_t *c = (uint8_t *)p->pixels->fill + 4 * pixel, *table = p->reduction->fill;
+    if (c[3] < 128)
+        return 0;
+    return (uint32_t)table[c[0]] << 24 | (uint32_t)table[c[1]] << 16 | (uint32_t)table[c[2]] << 8 | 255;
+}
+
+static int by_number(const void *a, const void *b)
+{
+    uint32_t x = *(const uint32_t *)a, y = *(const uint32_t *)b;
+    return (x > y) - (x < y);
+}
+
+/* The candidates of a picture whose lengths are right: distinct, ascending. The caller frees the list. */
+static uint32_t *candidates_of(const Picture *p, size_t *count)
+{
+    size_t pixels = p->pixels->len / 4, kept = 0;
+    uint32_t *keys = malloc((pixels + 1) * sizeof *keys);
+    if (keys == NULL)
+        fail("no memory");
+    for (size_t i = 0; i < pixels; i++)
+        if (reduced_key(p, i) != 0)
+            keys[kept++] = reduced_key(p, i);
+    qsort(keys, kept, sizeof *keys, by_number);
+    *count = 0;
+    for (size_t i = 0; i < kept; i++)
+        if (i == 0 || keys[i] != keys[i - 1])
+            keys[(*count)++] = keys[i];
+    return keys;
+}
+
+Rooms make_rooms(const Picture *p)
+{
+    Rooms rooms = {.list = NULL};
+    if (!size_wrong(p->size.width, p->size.height) && !picture_wrong(p))
+        rooms.list = candidates_of(p, &rooms.count);
+    size_t places = rooms.count + below(4);
+    if (once_in(12) && rooms.count > 0)
+        places = rooms.count - 1;
+    if (once_in(200))
+        places = 65536 + below(2);
+    if (places > 65537)
+        places = 65537;
+    rooms.places = lend_to_write(make_length(4 * places), 1);
+    rooms.oklab = lend_to_write(make_length(3 * places), sizeof(float));
+    return rooms;
+}
+
+void check_rooms(const Rooms *rooms, const Lent *scale)
+{
+    const uint8_t *places = rooms->places->fill, *table = scale->fill;
+    const float *oklab = rooms->oklab->fill;
+    for (size_t i = 0; i < rooms->count; i++) {
+        uint32_t key = rooms->list[i];
+        uint8_t color[4] = {(uint8_t)(key >> 24), (uint8_t)(key >> 16), (uint8_t)(key >> 8), (uint8_t)key};
+        float l, a, b;
+        badge_to_oklab(table[color[0]], table[color[1]], table[color[2]], &l, &a, &b);
+        check(memcmp(places + 4 * i, color, 4) == 0, "a candidate");
+        check(oklab[3 * i] == l && oklab[3 * i + 1] == a && oklab[3 * i + 2] == b, "a candidate's Oklab colour");
+    }
+    check(is_unchanged_from(rooms->places, 4 * rooms->count, 1), "places after the candidates");
+    check(is_unchanged_from(rooms->oklab, 3 * rooms->count, sizeof(float)), "Oklab colours after the candidates");
+}
+
+bool overflows(const Rooms *rooms)
+{
+    return rooms->count > rooms->places->len / 4;
+}
+
+uint32_t rooms_number(const Picture *p, const Rooms *rooms, bool kind, bool size, bool length)
+{
+    if (kind || shift_wrong(p->shift))
+        return BADGE_REFUSED_KIND_OR_SHIFT;
+    if (size || size_wrong(p->size.width, p->size.height))
+        return BADGE_REFUSED_SIZE;
+    length = length || picture_wrong(p) || rooms_wrong(rooms->places->len, rooms->oklab->len);
+    return length ? BADGE_REFUSED_LENGTH : BADGE_ACCEPTED;
+}
+
+void check_overflow(const Rooms *rooms)
+{
+    check(is_zero(rooms->places) && unchanged_but(NAMED(rooms->places)), "what too many candidates leave");
+}
+
+Lent *make_cells(uint32_t kind, size_t pixels)
+{
+    return lend_to_write(make_length(is_diffusion(kind) ? 3 * pixels : 0), sizeof(float));
+}
+
+void check_cells(const Lent *lent)
+{
+    const float *cells = lent->fill;
+    for (size_t i = 0; i < lent->len; i++) {
+        float sixteenths = 16.0f * cells[i];
+        check(fabsf(sixteenths) <= 4080.0f && sixteenths == truncf(sixteenths), "an error cell");
+        check(cells[i] != 0.0f || !signbit(cells[i]), "an error cell of minus zero");
+    }
+}

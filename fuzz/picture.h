@@ -1,0 +1,57 @@
+/*
+ * What the three calls on pictures share: a picture with its tables, the rooms for its candidates and what they have to hold
+ * afterwards, worked out anew, and error cells.
+ */
+#ifndef PICTURE_H
+#define PICTURE_H
+
+#include <stdbool.h>
+#include <stddef.h>
+#include <stdint.h>
+
+#include "lent.h"
+#include "make.h"
+
+typedef struct {
+    uint32_t shift;
+    Size size;
+    Lent *reduction, *scale, *pixels;
+} Picture;
+
+Picture make_picture(void);
+
+/* What the three calls on pictures read alike has a wrong length. The size is within its bounds. */
+bool picture_wrong(const Picture *p);
+
+/* The reduced colour of a pixel as a number that sorts as colours do; 0 where it is transparent. */
+uint32_t reduced_key(const Picture *p, size_t pixel);
+
+typedef struct {
+    Lent *places, *oklab;
+    uint32_t *list;
+    size_t count; /* how many candidates there are, where the picture's lengths are right */
+} Rooms;
+
+/* Room for a picture's candidates: as a rule enough, at times one too few, and now and again up to the bound or over. The
+ * caller frees the list. */
+Rooms make_rooms(const Picture *p);
+
+/* The number of the calls that have rooms for candidates, up to a wrong length; each of the three may be wrong elsewhere. */
+uint32_t rooms_number(const Picture *p, const Rooms *rooms, bool kind, bool size, bool length);
+
+/* More candidates than places. */
+bool overflows(const Rooms *rooms);
+
+/* What too many candidates leave. */
+void check_overflow(const Rooms *rooms);
+
+/* The candidates and their Oklab colours stand in front, and what is after them is as it was. */
+void check_rooms(const Rooms *rooms, const Lent *scale);
+
+/* Cells to lend to a picture for its kind. */
+Lent *make_cells(uint32_t kind, size_t pixels);
+
+/* Error cells are exact sixteenths from -255 to 255, and none is minus zero. */
+void check_cells(const Lent *lent);
+
+#endif
