@@ -8,7 +8,7 @@ use native.Mathlib.Numerals.{add-one}
 use native.Mathlib.Omega.{arith}
 use borrow.Author.Tests.{lt-ltb, le-ltb}
 use lib.Dec.{T}
-use lib.ListN.{length, getD, take, length-take, List·getD-eq-default, List·getD-map}
+use lib.ListN.{length, getD, take, length-take, List·getD-eq-default, List·getD-map, length-map}
 use lib.Seq.{length-take-le}
 use lib.Ieee.{Float}
 use Rattle.lists.proofs.Bools.{is-true}
@@ -39,7 +39,7 @@ use Rattle.lookup.specs.Answers.{numberOfTwo, numberOfBracket}
 use Rattle.lookup.proofs.AnswerLaws as Flat
 use Rattle.lookup.proofs.ListLaws as Flat′
 use Rattle.lookup.proofs.TwoLaws.{first-entry, second-entry}
-use Rattle.records.specs.declared.passes.Kept.{Kept}
+use Rattle.records.specs.declared.passes.Entry.{Entry}
 use Rattle.records.specs.declared.passes.Pass.{Pass}
 use Rattle.records.specs.declared.shorts.Short.{Short}
 use Rattle.records.specs.declared.FoundRecord.{FoundRecord}
@@ -49,9 +49,9 @@ use Rattle.records.specs.declared.FoundRecords.the-variants as both
 use Rattle.records.specs.Lists.{noRecord, recordAt, candidatesOf, rangedTo, recordReplies, numberBy, recordsNumber}
 use Rattle.records.specs.Answers.{numberOfRecord, numberOfRecords, nearestRecordAnswer, recordsAt, nearestTwoRecordsAnswer, recordsBracketAnswer}
 use Rattle.records.specs.Answers.{NearestRecord, NearestTwoRecords, RecordsBracket, foundTwoIn}
-use Rattle.records.specs.Keeping.{farOf, entryOf, Passed, shortOf, shortRecords, inLine, LaidIn, Roomy, recordIn, Shortened}
+use Rattle.records.specs.Keeping.{farOf, entryOf, Passed, shortPositions, shortRecords, inLine, LaidIn, Roomy, recordIn, Shortened}
 use Rattle.records.proofs.ListLaws.{Accepted, accepted, all-ranged}
-use Rattle.records.proofs.MapLaws.{map-take, map-map, length-map}
+use Rattle.shortlist.proofs.MapLaws.{map-take, map-map}
 use Rattle.records.proofs.KeepingLaws.{noEntry, nearest-kept}
 use Rattle.records.proofs.FlatLaws.{laid-record}
 use Rattle.records.proofs.AgreeLaws.{FlatTwo, FlatBracket, two-flat, bracket-flat}
@@ -62,7 +62,8 @@ pub number-lowest : (list : List CandidateColor) → Lowest (recordReplies list)
 number-lowest list = lowest-is (recordReplies list) tt
 
 -- and it is what `refusal` says after a pass
-pub number-is : (list : List CandidateColor) (len : ℕ) (ranged : Bool) (r : ℕ) → len ≡ length list → ranged ≡ rangedTo list (length list) → r ≡ numberBy len ranged → r ≡ recordsNumber list
+pub number-is : (list : List CandidateColor) (len : ℕ) (ranged : Bool) (r : ℕ) → len ≡ length list → ranged ≡ rangedTo list (length list)
+    → r ≡ numberBy len ranged → r ≡ recordsNumber list
 number-is list len ranged r e f g = g ∙ (λ i. numberBy (e i) (f i))
 
 -- a list of so many records in range
@@ -125,7 +126,8 @@ module _ (list : List CandidateColor) (color : NormalizedColor) {r : ℕ} (e : r
       own (suc r) h = refl
 
 -- ---- what `chosen` answers
-module _ (list : List CandidateColor) (color : NormalizedColor) (len : ℕ) (near : Pass) (e : len ≡ length list) (P : Passed list (toOklab color) (length list) 1 (length list) near)
+module _ (list : List CandidateColor) (color : NormalizedColor) (len : ℕ) (near : Pass) (e : len ≡ length list)
+    (P : Passed list (toOklab color) (length list) 1 (length list) near)
     (r : ℕ) (g : r ≡ numberBy len (near .ranged)) where
   number : r ≡ recordsNumber list
   number = number-is list len (near .ranged) r e (P .ranged) g
@@ -137,7 +139,7 @@ module _ (list : List CandidateColor) (color : NormalizedColor) (len : ℕ) (nea
   nearest-granted O z =
       let A = accepted list (sym number ∙ z) in
       nearest-promised list color (
-      ap (λ (x : Kept). one.Chosen (x .color)) (nearest-kept list (toOklab color) near P O (A .positive) (A .ranged))
+      ap (λ (x : Entry). one.Chosen (x .color)) (nearest-kept list (toOklab color) near P O (A .positive) (A .ranged))
       ∙ ap (nearestRecordAnswer list color) (sym z ∙ number))
 
 -- ---- the short list
@@ -149,7 +151,7 @@ module _ (list : List CandidateColor) (color : NormalizedColor) (width : ℕ) (A
   o = toOklab color
 
   abbrev ps : List ℕ
-  ps = shortOf cs width o
+  ps = shortPositions cs width o
 
   abbrev short : List CandidateColor
   short = shortRecords list width color
@@ -159,22 +161,29 @@ module _ (list : List CandidateColor) (color : NormalizedColor) (width : ℕ) (A
 
   -- the record at a place is the one that stands there
   short-at : (k : ℕ) → recordAt short k ≡ recordAt list (g k)
-  short-at k = ap (λ (z : CandidateColor). getD (map (recordAt list) ps) k z) (sym (List·getD-eq-default list noRecord {n = length list} (omega arith))) ∙ List·getD-map (recordAt list) ps k (length list)
+  short-at k = ap (λ (z : CandidateColor). getD (map (recordAt list) ps) k z) (sym (List·getD-eq-default list noRecord {n = length list} (omega arith)))
+      ∙ List·getD-map (recordAt list) ps k (length list)
 
   short-is : candidatesOf short ≡ shortened cs width o
-  short-is = λ i. record { count = length-map (recordAt list) ps i; reduced = λ k. short-at k i .reduced; normalized = λ k. short-at k i .normalized; oklab = λ k. short-at k i .oklab }
+  short-is = λ i. record {
+    count = length-map ps (recordAt list) i;
+    reduced = λ k. short-at k i .reduced;
+    normalized = λ k. short-at k i .normalized;
+    oklab =
+        λ k. short-at k i .oklab;
+  }
 
   -- it is accepted
   short-long : (0 < length short) × (length short ≤ 17)
   short-long =
-      let l = length-map (recordAt list) ps in
+      let l = length-map ps (recordAt list) in
       let t = length-take (clampWidth width) (ranked (distances (cs .oklab (nearestOf cs o)) (cs .oklab)) (nearestOf cs o) (cs .count)) in
       (omega (arith, l), omega (arith, l, t))
 
   short-ranged : T (rangedTo short (length short))
   short-ranged = all-ranged short (length short) (λ k l.
       subst (λ (x : CandidateColor). T (allInRange (x .oklab))) (sym (short-at k))
-      (A .range (g k) (standing-inside cs width o color (A .positive) (A .range) O k (subst (λ (m : ℕ). k < m) (length-map (recordAt list) ps) l))))
+      (A .range (g k) (standing-inside cs width o color (A .positive) (A .range) O k (subst (λ (m : ℕ). k < m) (length-map ps (recordAt list)) l))))
 
   pub short-accepted : recordsNumber short ≡ 0
   short-accepted = number-none short (short-long .0) (omega (arith, short-long .1)) short-ranged
@@ -202,7 +211,8 @@ module _ (list : List CandidateColor) (color : NormalizedColor) (width : ℕ) (A
 -- ---- the short list after the two passes
 pub joined-is : (list : List CandidateColor) (color : NormalizedColor) (width len : ℕ) (near others : Pass) → len ≡ length list → T (allInRange (toOklab color))
     → Passed list (toOklab color) (length list) 1 (length list) near
-    → (recordsNumber list ≡ 0 → Passed list (recordAt list (nearestOf (candidatesOf list) (toOklab color)) .oklab) (nearestOf (candidatesOf list) (toOklab color)) width (length list) others)
+    → (recordsNumber list ≡ 0 → Passed list (recordAt list (nearestOf (candidatesOf list) (toOklab color)) .oklab)
+    (nearestOf (candidatesOf list) (toOklab color)) width (length list) others)
     → (r : ℕ) → r ≡ numberBy len (near .ranged) → (total : ℕ) → (others .count ≤ 16 → total ≡ others .count + 1)
     → {rs ns : List ℕ} {os : List Float} → LaidIn (take total (inLine (getD (near .kept) 0 noEntry .color) (others .kept))) total rs ns os
     → Shortened list width color (record { number = r; count = total; reduced = rs; normalized = ns; oklab = os })
@@ -226,18 +236,21 @@ joined-is list color width len near others e O P Q r g total T₁ {rs} {ns} {os}
         let js : List ℕ = shortlistOf (farOf list (recordAt list a .oklab)) a (length list) width in
         let few : others .count ≤ 16 = omega (arith, K .count, length-take (clampWidth width) (ranked (farOf list (recordAt list a .oklab)) a (length list))) in
         let one : total ≡ suc (others .count) = T₁ few ∙ add-one (others .count) in
-        let first : getD (near .kept) 0 noEntry .color ≡ recordAt list a = ap (λ (x : Kept). x .color) (nearest-kept list (toOklab color) near P O (A .positive) (A .ranged)) in
-        let rest : take (others .count) (map (λ (x : Kept). x .color) (others .kept)) ≡ map (recordAt list) js =
-        sym (map-take (λ (x : Kept). x .color) (others .count) (others .kept)) ∙ ap (map (λ (x : Kept). x .color)) (K .front)
-        ∙ map-map (entryOf (recordAt list) (farOf list (recordAt list a .oklab))) (λ (x : Kept). x .color) js in
+        let first : getD (near .kept) 0 noEntry .color ≡ recordAt list a =
+        ap (λ (x : Entry). x .color) (nearest-kept list (toOklab color) near P O (A .positive) (A .ranged)) in
+        let rest : take (others .count) (map (λ (x : Entry). x .color) (others .kept)) ≡ map (recordAt list) js =
+        sym (map-take (λ (x : Entry). x .color) (others .count) (others .kept)) ∙ ap (map (λ (x : Entry). x .color)) (K .front)
+        ∙ map-map (entryOf (recordAt list) (farOf list (recordAt list a .oklab))) (λ (x : Entry). x .color) js in
         ap (λ (m : ℕ). take m (inLine (getD (near .kept) 0 noEntry .color) (others .kept))) one ∙ (λ i. first i ∷ rest i)
 
 -- ---- the records at two places of flat lists
 module _ (list : List CandidateColor) (t : Two) where
-  pub records-two : (b : ℕ) → t .second ≡ At b → (x y : CandidateColor) {x′ y′ : CandidateColor} → x ≡ x′ → y ≡ y′ → x′ ≡ recordAt list (t .first) → y′ ≡ recordAt list b → both.Two x y ≡ recordsAt list (t .first) (t .second)
+  pub records-two : (b : ℕ) → t .second ≡ At b → (x y : CandidateColor) {x′ y′ : CandidateColor} → x ≡ x′ → y ≡ y′ → x′ ≡ recordAt list (t .first)
+      → y′ ≡ recordAt list b → both.Two x y ≡ recordsAt list (t .first) (t .second)
   records-two b e x y p q f g = (λ i. both.Two ((p ∙ f) i) ((q ∙ g) i)) ∙ ap (recordsAt list (t .first)) (sym e)
 
-  pub records-one : t .second ≡ Nothing → (x : CandidateColor) {x′ : CandidateColor} → x ≡ x′ → x′ ≡ recordAt list (t .first) → both.One x ≡ recordsAt list (t .first) (t .second)
+  pub records-one : t .second ≡ Nothing → (x : CandidateColor) {x′ : CandidateColor} → x ≡ x′ → x′ ≡ recordAt list (t .first)
+      → both.One x ≡ recordsAt list (t .first) (t .second)
   records-one e x p f = ap both.One (p ∙ f) ∙ ap (recordsAt list (t .first)) (sym e)
 
 -- ---- the fronts of a short list's arrays that its records take
@@ -245,7 +258,8 @@ module _ {s : Short} (R : Roomy s) where
   pub fits : (4 * s .count ≤ length (s .reduced)) × (4 * s .count ≤ length (s .normalized)) × (3 * s .count ≤ length (s .oklab))
   fits = (omega arith, omega arith, omega arith)
 
-  pub fronts : (4 * s .count ≡ length (take (4 * s .count) (s .reduced))) × (4 * s .count ≡ length (take (4 * s .count) (s .normalized))) × (3 * s .count ≡ length (take (3 * s .count) (s .oklab)))
+  pub fronts : (4 * s .count ≡ length (take (4 * s .count) (s .reduced))) × (4 * s .count ≡ length (take (4 * s .count) (s .normalized)))
+      × (3 * s .count ≡ length (take (3 * s .count) (s .oklab)))
   fronts = (sym (length-take-le _ _ (fits .0)), sym (length-take-le _ _ (fits .1)), sym (length-take-le _ _ (fits .2)))
 
 -- ---- the flat answer over the short list
@@ -254,7 +268,8 @@ twoOr u (two.At t) = t
 twoOr u (two.Refused n) = u
 
 -- its positions are entries
-pub two-inside : (rs ns : List ℕ) (os : List Float) (color : NormalizedColor) (width : ℕ) (x : FoundTwo) (t : Two) → FlatTwo rs ns os color width x → x ≡ two.At t
+pub two-inside : (rs ns : List ℕ) (os : List Float) (color : NormalizedColor) (width : ℕ) (x : FoundTwo) (t : Two) → FlatTwo rs ns os color width x
+    → x ≡ two.At t
     → (t .first < length rs / 4) × ((b : ℕ) → t .second ≡ At b → b < length rs / 4)
 two-inside rs ns os color width x t p q =
     let e = sym p ∙ q in
@@ -299,7 +314,8 @@ module _ {list : List CandidateColor} {color : NormalizedColor} {width : ℕ} {s
       ∙ bracket-same list color width (accepted list z) (S .range) ∙ ap (recordsBracketAnswer list color width) (sym z))
 
   -- the records at the positions of the flat answer
-  record-from : (k : ℕ) → k < length (take (4 * s .count) (s .reduced)) / 4 → recordIn (s .reduced) (s .normalized) (s .oklab) k ≡ recordAt (shortRecords list width color) k
+  record-from : (k : ℕ) → k < length (take (4 * s .count) (s .reduced)) / 4 → recordIn (s .reduced) (s .normalized) (s .oklab) k ≡ recordAt
+      (shortRecords list width color) k
   record-from k h = laid-record (shortRecords list width color) L k (omega (arith, length-take (4 * s .count) (s .reduced)))
 
   pub two-found : {x : FoundTwo} {t : Two} {r : FoundRecords}

@@ -1,5 +1,4 @@
 -- The laws of `records`.
-mod MapLaws
 pub mod ListLaws
 pub mod KeepingLaws
 pub mod FlatLaws

@@ -43,5 +43,6 @@ Rounded near width r = (list : List CandidateColor) (o : Oklab) → T (allInRang
 abbrev pub Joined : ℕ → Pass → Pass → Short → Type 0
 Joined len near others r = Roomy r × ((list : List CandidateColor) (color : NormalizedColor) (width : ℕ) → len ≡ length list → T (allInRange (toOklab color))
     → Passed list (toOklab color) (length list) 1 (length list) near
-    → (recordsNumber list ≡ 0 → Passed list (recordAt list (nearestOf (candidatesOf list) (toOklab color)) .oklab) (nearestOf (candidatesOf list) (toOklab color)) width (length list) others)
+    → (recordsNumber list ≡ 0 → Passed list (recordAt list (nearestOf (candidatesOf list) (toOklab color)) .oklab)
+    (nearestOf (candidatesOf list) (toOklab color)) width (length list) others)
     → Shortened list width color r)

@@ -22,7 +22,8 @@ recordAt list k = getD list k noRecord
 
 -- the records as candidates: what the definitions of the lookups choose from
 abbrev pub candidatesOf : List CandidateColor → Candidates
-candidatesOf list = record { count = length list; reduced = λ k. recordAt list k .reduced; normalized = λ k. recordAt list k .normalized; oklab = λ k. recordAt list k .oklab }
+candidatesOf list =
+    record { count = length list; reduced = λ k. recordAt list k .reduced; normalized = λ k. recordAt list k .normalized; oklab = λ k. recordAt list k .oklab }
 
 -- ---- taken apart
 abbrev pub reducedPiece : List CandidateColor → ℕ → List ℕ

@@ -1,8 +1,8 @@
 // The lookups over the caller's list of candidate records: `nearest`, `nearest_two` and `ordered_bracket` of
 // src/dither.rs, with its names and orders of parameters. `scan` has the one loop over the list; what it does with a
 // record is in `passes`, what is done with the few records that are left in `shorts`, which calls the flat lookups.
-pub mod passes;
-pub mod shorts;
+mod passes;
+mod shorts;
 
 use color::CandidateColor;
 use color::NormalizedColor;

@@ -50,12 +50,14 @@ enum-known-n c = search needs
 returns-2 : tie.Need-returns-2
 returns-2 c list S =
     let f = c .before .before .before .before in
-    two-found S (f .before .before .before .before .before .before .before .before .before .if1 .left) (f .flat-nearest-two .ensures) (c .before .before .two .given .1) (c .records-in .ensures)
+    two-found S (f .before .before .before .before .before .before .before .before .before .if1 .left) (f .flat-nearest-two .ensures)
+    (c .before .before .two .given .1) (c .records-in .ensures)
 
 returns-3 : tie.Need-returns-3
 returns-3 c list S =
     let f = c .before .before .before in
-    two-not-found S (f .before .before .before .before .before .before .before .before .before .if1 .left) (f .flat-nearest-two .ensures) (c .before .n .given .1)
+    two-not-found S (f .before .before .before .before .before .before .before .before .before .if1 .left) (f .flat-nearest-two .ensures)
+    (c .before .n .given .1)
 
 pub two-of-spec : {M : Type 1} → statement M
 two-of-spec =
