@@ -7,7 +7,8 @@ use Prim.Native.Nat.{ℕ, _+_, _<_}
 use native.Mathlib.Omega.{arith}
 use lib.Dec.{T, T-not}
 use Rattle.color.specs.Color.{sameReduced, reducedAt}
-use Rattle.picture.specs.Pixels.{isOpaque}
+use Rattle.picture.specs.Pixels.{reducedBy, isSeen, pixelAt, isOpaque}
+use Rattle.picture.proofs.Opaque.{opaque-is}
 use Rattle.judging.specs.declared.Judged.{Judged}
 use Rattle.judging.specs.declared.Judged.the-variants.{Fits, Over}
 use Rattle.lists.specs.Different.{Many}
@@ -44,10 +45,18 @@ module _ (q : Order) where
         go true b f = absurd (let z : _≡_ {A = ℕ} 0 1 = cc in omega arith)
         go false b f = b
 
+  seen-is : (i : ℕ) → isSeen (reducedBy (q .reduction) (q .pixels)) i ≡ isOpaque (q .pixels) i
+  unfolding isSeen reducedBy pixelAt
+  seen-is i = sym (opaque-is (q .reduction) (q .pixels) i)
+
   -- the drawn bytes are judged as the choices are
   pub judged-bytes : (reduced : List ℕ) → ((i : ℕ) → i < size q → reducedAt reduced i ≡ chosen q i)
-      → judgedOf (isOpaque (q .pixels)) (reducedAt reduced) (q .settings .width) (q .settings .height) (q .settings .«tile_width») (q .settings .«tile_height») (q .settings .limit) ≡ verdict
-  judged-bytes reduced same = let s = q .settings in judged-same (s .width) (s .height) (s .«tile_width») (s .«tile_height») (λ i h. refl) same (s .limit)
+      → let s = q .settings in
+      judgedOf (isSeen (reducedBy (q .reduction) (q .pixels))) (reducedAt reduced) (s .width) (s .height) (s .«tile_width») (s .«tile_height») (s .limit)
+      ≡ verdict
+  judged-bytes reduced same =
+      let s = q .settings in
+      judged-same (s .width) (s .height) (s .«tile_width») (s .«tile_height») (λ i h. seen-is i) same (s .limit)
 
   -- ---- what it says
   -- of tile t's non-transparent pixels, more different colours are chosen than the limit: so many and one more, no two the same

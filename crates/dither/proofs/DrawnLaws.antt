@@ -51,9 +51,11 @@ module _ (q : Order) {out₀ : List ℕ} {cells₀ : List Float} (f : Fitting q 
   long : length reduced ≡ 4 * size q
   long = ap length e ∙ bytes-length (dithering q)
 
-  pub judgeable : Judgeable reduced (q .pixels) (q .settings .width) (q .settings .height) (q .settings .«tile_width») (q .settings .«tile_height») (q .settings .limit)
+  pub judgeable : let s = q .settings in
+      Judgeable reduced (q .reduction) (q .pixels) (s .width) (s .height) (s .«tile_width») (s .«tile_height») (s .limit)
   judgeable = record {
     chosen = long;
+    table = f .reduction;
     lent = f .pixels;
     wide = f .wide;
     high = f .high;

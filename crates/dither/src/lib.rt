@@ -211,6 +211,7 @@ fn dither(
     );
     let verdict = judging::judge(
         out,
+        reduction,
         pixels,
         s.width,
         s.height,
