@@ -27,18 +27,15 @@ use Rattle.lookup.specs.declared.Second.the-variants.{At, Nothing}
 use Rattle.lookup.proofs.TwoLaws.{first-inside, second-inside, one-alone}
 
 -- ---- what `bracket_with` answers
-module _ (oklab : ℕ → Oklab) (normalized : ℕ → NormalizedColor) (c : NormalizedColor) (a b : ℕ) (p q : Oklab) (c1 c2 : NormalizedColor) (t : Float) (P : p ≡ oklab a) (Q : q ≡ oklab b) (C1 : c1 ≡ normalized a) (C2 : c2 ≡ normalized b) (s : t ≡ lerpOf c1 c2 c true) where
+module _ (oklab : ℕ → Oklab) (a b : ℕ) (c1 c2 c : NormalizedColor) (p q : Oklab) (t : Float) (P : p ≡ oklab a) (Q : q ≡ oklab b) (ratio : t ≡ lerpOf c1 c2 c true) where
   test : (u : Bool) → le (p .l) (q .l) ≡ u → le (oklab a .l) (oklab b .l) ≡ u
   test u e = (λ i. le (sym P i .l) (sym Q i .l)) ∙ e
 
-  ratio : t ≡ lerpOf (normalized a) (normalized b) c true
-  ratio = s ∙ (λ i. lerpOf (C1 i) (C2 i) c true)
-
-  pub lighter : le (p .l) (q .l) ≡ true → _≡_ {A = BracketAt} (record { dark = a; light = b; ratio = t }) (bracketWith oklab normalized c a b)
+  pub lighter : le (p .l) (q .l) ≡ true → _≡_ {A = BracketAt} (record { dark = a; light = b; ratio = t }) (bracketWith oklab a b c1 c2 c)
   unfolding bracketWith
   lighter e = rw (test true e) (λ i. record { dark = a; light = b; ratio = ratio i })
 
-  pub darker : le (p .l) (q .l) ≡ false → _≡_ {A = BracketAt} (record { dark = b; light = a; ratio = sub binary32 oneF t }) (bracketWith oklab normalized c a b)
+  pub darker : le (p .l) (q .l) ≡ false → _≡_ {A = BracketAt} (record { dark = b; light = a; ratio = sub binary32 oneF t }) (bracketWith oklab a b c1 c2 c)
   unfolding bracketWith
   darker e = rw (test false e) (λ i. record { dark = b; light = a; ratio = sub binary32 oneF (ratio i) })
 
@@ -52,8 +49,9 @@ module _ (cs : Candidates) (width : ℕ) (o : Oklab) (c : NormalizedColor) where
     pub solid-is : two .second ≡ Nothing → r ≡ solidAt (two .first) → r ≡ bracketAtOf cs width o c
     solid-is q h = by-second Nothing q h
 
-    pub pair-is : (b : ℕ) → two .second ≡ At b → r ≡ bracketWith (cs .oklab) (cs .normalized) c (two .first) b → r ≡ bracketAtOf cs width o c
-    pair-is b q h = by-second (At b) q h
+    pub pair-is : (b : ℕ) → two .second ≡ At b → (c1 c2 : NormalizedColor) → c1 ≡ cs .normalized (two .first) → c2 ≡ cs .normalized b
+        → r ≡ bracketWith (cs .oklab) (two .first) b c1 c2 c → r ≡ bracketAtOf cs width o c
+    pair-is b q c1 c2 p₁ p₂ h = by-second (At b) q (h ∙ (λ i. bracketWith (cs .oklab) (two .first) b (p₁ i) (p₂ i) c))
 
   module _ (positive : 0 < cs .count) where
     -- one entry alone: the bracket is solid

@@ -6,12 +6,12 @@ use mathlib.Core.Logic.{_⊎_, inl, inr}
 use mathlib.Core.List.{List, [], _∷_, _++_}
 use mathlib.Core.Bool.{Bool, true, false, cond, _||_}
 use Prim.Native.Nat.{ℕ, zero, suc, _+_, _≤_, _<_}
-use native.Mathlib.Nat.{not-suc-le-zero}
+use native.Mathlib.Nat.{not-suc-le-zero, le-antisymm, le-refl}
 use native.Mathlib.Numerals.{add-one}
 use native.Mathlib.Omega.{arith}
 use lib.Dec.{eqb}
 use lib.ListN.{length, getD, take, length-append, List·getD-append}
-use lib.Seq.{take-suc, getD-take, length-take-le, getD-append-add}
+use lib.Seq.{take-suc, take-take, getD-take, length-take-le, getD-append-add}
 use lib.Ieee.{Float, lt}
 use Rattle.floats.proofs.Order.{Plain, upto-plain}
 use Rattle.lists.specs.Least.{leastOf}
@@ -22,7 +22,7 @@ use Rattle.color.specs.declared.NormalizedColor.{NormalizedColor}
 use Rattle.mixing.specs.Lerp.{shareOf, lerpOf, between, mixResidual, Bytes}
 use Rattle.mixing.proofs.Between.{between-within}
 use Rattle.mixing.proofs.Residuals.{residual-upto}
-use Rattle.lookup.specs.Second.{those, leastAmong, secondIn, secondOf, IsSecondIn, mixable, mixError, Held, improved, weighed}
+use Rattle.lookup.specs.Second.{those, leastAmong, secondIn, secondOf, IsSecondIn, mixable, mixError, Held, BestBeside, improved, weighed}
 use Rattle.lookup.specs.declared.Best.{Best}
 use Rattle.lookup.specs.declared.Second.{Second}
 use Rattle.lookup.specs.declared.Second.the-variants.{At, Nothing}
@@ -93,25 +93,43 @@ unfolding weighed lerpOf
 weighed-is best r k a b c t s x T S X e =
     e ∙ ap (λ (u : Bool). improved best k u x) (S ∙ ap between T) ∙ ap (improved best k (between (shareOf a b c))) (X ∙ ap (λ (v : Float). mixResidual a b v c) T)
 
+-- the first i of the first n of an array have had their turn beside entry a, whose colour is c1
+pub record Weighing (normalized : ℕ → NormalizedColor) (a : ℕ) (c c1 : NormalizedColor) (ps : List ℕ) (n i : ℕ) (best : Best) : Type 0 where
+  pub passed : i ≤ n
+  pub beside : c1 ≡ normalized a
+  pub held : BestBeside normalized a c (take i (take n ps)) best
+
 module _ (normalized : ℕ → NormalizedColor) (a : ℕ) (c : NormalizedColor) where
-  one-more : (best : Best) (ks : List ℕ) (k : ℕ) → Held (mixError normalized a c) best (those (mixable normalized a c) ks)
-      → Held (mixError normalized a c) (weighed best k (normalized a) (normalized k) c) (those (mixable normalized a c) (ks ++ k ∷ []))
+  one-more : (best : Best) (ks : List ℕ) (k : ℕ) → BestBeside normalized a c ks best
+      → BestBeside normalized a c (ks ++ k ∷ []) (weighed best k (normalized a) (normalized k) c)
   unfolding weighed improved
   one-more best ks k h = rw (those-more (mixable normalized a c) ks k) (go (mixable normalized a c k))
     where
-      go : (u : Bool) → Held (mixError normalized a c) (improved best k u (mixError normalized a c k)) (cond u (those (mixable normalized a c) ks ++ k ∷ []) (those (mixable normalized a c) ks))
+      go : (u : Bool) → Held (mixError normalized a c) (improved best k u (mixError normalized a c k))
+          (cond u (those (mixable normalized a c) ks ++ k ∷ []) (those (mixable normalized a c) ks))
       go true = held-more (mixError normalized a c) best (those (mixable normalized a c) ks) k h
       go false = h
 
-  -- a turn of the loop over the first n of an array
-  pub weighed-more : (best r : Best) (c1 c2 : NormalizedColor) (ps : List ℕ) (n i : ℕ) → i < n → n ≤ length ps → c1 ≡ normalized a → c2 ≡ normalized (getD ps i 0) → r ≡ weighed best (getD ps i 0) c1 c2 c
-      → Held (mixError normalized a c) best (those (mixable normalized a c) (take i (take n ps))) → Held (mixError normalized a c) r (those (mixable normalized a c) (take (i + 1) (take n ps)))
-  weighed-more best r c1 c2 ps n i h l p q w held =
-      let at : getD (take n ps) i 0 ≡ getD ps i 0 = getD-take n ps i 0 h in
-      let long : i < length (take n ps) = omega (arith, length-take-le n ps l) in
-      let next : take (i + 1) (take n ps) ≡ take i (take n ps) ++ getD ps i 0 ∷ [] = ap (λ (m : ℕ). take m (take n ps)) (add-one i) ∙ take-suc (take n ps) i 0 long ∙ ap (λ (k : ℕ). take i (take n ps) ++ k ∷ []) at in
-      let same : r ≡ weighed best (getD ps i 0) (normalized a) (normalized (getD ps i 0)) c = w ∙ (λ j. weighed best (getD ps i 0) (p j) (q j) c) in
-      rw (next, same) (one-more best (take i (take n ps)) (getD ps i 0) held)
+  module _ (ps : List ℕ) (n : ℕ) where
+    pub weighing-none : (c1 : NormalizedColor) (best : Best) → c1 ≡ normalized a → best .found ≡ 0 → Weighing normalized a c c1 ps n 0 best
+    weighing-none c1 best p e = record { passed = omega arith; beside = p; held = e }
+
+    -- a turn of the loop
+    pub weighing-more : {c1 : NormalizedColor} {i : ℕ} {best : Best} → Weighing normalized a c c1 ps n i best → i < n → n ≤ length ps
+        → (c2 : NormalizedColor) → c2 ≡ normalized (getD ps i 0) → (r : Best) → r ≡ weighed best (getD ps i 0) c1 c2 c → Weighing normalized a c c1 ps n (i + 1) r
+    weighing-more {c1} {i} {best} w h l c2 q r e =
+        let k : ℕ = getD ps i 0 in
+        let at : getD (take n ps) i 0 ≡ k = getD-take n ps i 0 h in
+        let long : i < length (take n ps) = omega (arith, length-take-le n ps l) in
+        let next : take (i + 1) (take n ps) ≡ take i (take n ps) ++ k ∷ [] =
+        ap (λ (m : ℕ). take m (take n ps)) (add-one i) ∙ take-suc (take n ps) i 0 long ∙ ap (λ (j : ℕ). take i (take n ps) ++ j ∷ []) at in
+        let same : r ≡ weighed best k (normalized a) (normalized k) c = e ∙ (λ j. weighed best k (w .beside j) (q j) c) in
+        record { passed = omega arith; beside = w .beside; held = rw (next, same) (one-more best (take i (take n ps)) k (w .held)) }
+
+    pub weighing-all : {c1 : NormalizedColor} {i : ℕ} {best : Best} → Weighing normalized a c c1 ps n i best → n ≤ i → BestBeside normalized a c (take n ps) best
+    weighing-all {i = i} {best = best} w l =
+        subst (λ (ks : List ℕ). BestBeside normalized a c ks best)
+        (ap (λ (m : ℕ). take m (take n ps)) (le-antisymm (w .passed) l) ∙ take-take n n ps (le-refl n)) (w .held)
 
 -- ---- the end: what the loop held, read out
 module _ (e : ℕ → Float) (best : Best) where

@@ -22,12 +22,12 @@ use Rattle.lookup.specs.declared.Picked.{Picked}
 use Rattle.lookup.specs.declared.Picked.the-variants as picked
 use Rattle.patterns.specs.declared.Thresholded.the-variants as thresholded
 
--- entries a and b as a bracket for c
-unfoldable pub bracketWith : (ℕ → Oklab) → (ℕ → NormalizedColor) → NormalizedColor → ℕ → ℕ → BracketAt
-bracketWith oklab normalized c a b =
+-- entries a and b, whose normalised colours are c1 and c2, as a bracket for c
+unfoldable pub bracketWith : (ℕ → Oklab) → ℕ → ℕ → NormalizedColor → NormalizedColor → NormalizedColor → BracketAt
+bracketWith oklab a b c1 c2 c =
     cond (le (oklab a .l) (oklab b .l))
-    (record { dark = a; light = b; ratio = lerpOf (normalized a) (normalized b) c true })
-    (record { dark = b; light = a; ratio = sub binary32 oneF (lerpOf (normalized a) (normalized b) c true) })
+    (record { dark = a; light = b; ratio = lerpOf c1 c2 c true })
+    (record { dark = b; light = a; ratio = sub binary32 oneF (lerpOf c1 c2 c true) })
 
 -- one entry alone: dark and light are the same
 abbrev pub solidAt : ℕ → BracketAt
@@ -36,7 +36,7 @@ solidAt a = record { dark = a; light = a; ratio = zeroF }
 -- entry a, and the second if there is one
 abbrev pub bracketTwo : (ℕ → Oklab) → (ℕ → NormalizedColor) → NormalizedColor → ℕ → Second → BracketAt
 bracketTwo oklab normalized c a Nothing = solidAt a
-bracketTwo oklab normalized c a (At b) = bracketWith oklab normalized c a b
+bracketTwo oklab normalized c a (At b) = bracketWith oklab a b (normalized a) (normalized b) c
 
 -- the positions and the ratio, for a colour c that is o in Oklab
 unfoldable pub bracketAtOf : Candidates → ℕ → Oklab → NormalizedColor → BracketAt

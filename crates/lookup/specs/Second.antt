@@ -51,9 +51,12 @@ mixable normalized a c k = between (shareOf (normalized a) (normalized k) c)
 abbrev pub mixError : (ℕ → NormalizedColor) → ℕ → NormalizedColor → ℕ → Float
 mixError normalized a c k = mixResidual (normalized a) (normalized k) (shareOf (normalized a) (normalized k) c) c
 
--- the second beside entry a
+-- the second beside entry a, of a shortlist
+abbrev pub secondBeside : (ℕ → NormalizedColor) → ℕ → NormalizedColor → List ℕ → Second
+secondBeside normalized a c ks = secondOf (mixable normalized a c) (mixError normalized a c) ks
+
 abbrev pub secondTo : Candidates → ℕ → NormalizedColor → ℕ → Second
-secondTo cs width c a = secondOf (mixable (cs .normalized) a c) (mixError (cs .normalized) a c) (shortlistOf (distances (cs .oklab a) (cs .oklab)) a (cs .count) width)
+secondTo cs width c a = secondBeside (cs .normalized) a c (shortlistOf (distances (cs .oklab a) (cs .oklab)) a (cs .count) width)
 
 -- the nearest and the second, of a colour c that is o in Oklab
 unfoldable pub nearestTwoOf : Candidates → ℕ → Oklab → NormalizedColor → Two
@@ -65,6 +68,10 @@ nearestTwoOf cs width o c = record { first = nearestOf cs o; second = secondTo c
 abbrev pub Held : (ℕ → Float) → Best → List ℕ → Type 0
 Held e best [] = best .found ≡ 0
 Held e best (k ∷ ks) = (best .found ≡ 1) × (best .position ≡ leastAmong e (k ∷ ks)) × (best .error ≡ e (leastAmong e (k ∷ ks)))
+
+-- best is that of the entries of ks that mix with entry a, if one does
+abbrev pub BestBeside : (ℕ → NormalizedColor) → ℕ → NormalizedColor → List ℕ → Best → Type 0
+BestBeside normalized a c ks best = Held (mixError normalized a c) best (those (mixable normalized a c) ks)
 
 -- k with its error, where it mixes, and there is no best yet or its error is below the best's
 unfoldable pub improved : Best → ℕ → Bool → Float → Best

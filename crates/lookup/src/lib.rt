@@ -1,8 +1,9 @@
-// Choosing colours: the nearest candidate, the nearest two, the ordered bracket and what is picked of it, over flat lists.
-// Names and order are those of src/dither.rs; the functions of the modules answer positions.
+// Choosing colours: the nearest candidate, the nearest two, the ordered bracket and what is picked of it, over flat lists of
+// candidates. `pick` has the name that src/dither.rs gives it; the calls over flat lists are the base of the lookups over
+// records, which are in crate `records` and have its names. The functions of the modules answer positions.
 pub mod brackets;
-pub mod checks;
-pub mod flat;
+mod checks;
+mod flat;
 pub mod seconds;
 
 use checks::list_refusal;
@@ -39,6 +40,19 @@ pub struct Best {
     pub found: u32,
     pub error: f32,
     pub position: usize,
+}
+
+impl Best {
+    // Nothing yet.
+    pub fn none() -> Self
+        ensures { λ r. ⌜ r .found ≡ 0 ⌝ }
+    {
+        Best {
+            found: 0,
+            error: 0.0,
+            position: 0,
+        }
+    }
 }
 
 // A bracket by positions.

@@ -1,7 +1,8 @@
 // Answers remembered by colour, so that a colour that comes again is not looked up again. The original keeps a `HashMap` of
 // brackets; here it is a lent table of 256 words, one for each hash, behind them the position that was found last, which is
 // where the next search begins, and then 128 rows of shortlists.
-pub mod shorts;
+mod seconds;
+mod shorts;
 
 use color::NormalizedColor;
 use conversion::to_oklab_with;
@@ -9,7 +10,8 @@ use lookup::BracketAt;
 use lookup::Second;
 use lookup::Two;
 use lookup::brackets::bracket_with;
-use lookup::seconds::second_of;
+use seconds::normal_at;
+use seconds::second_of;
 ghost use mathlib.Core.Path.{_≡_};
 ghost use mathlib.Core.List.{List};
 ghost use Prim.Native.Nat.{ℕ, _+_, _-_, _*_, _/_, _%_, _<_, _≤_};
@@ -269,5 +271,7 @@ pub fn bracket_positions(
     let Second::At(b) = second else {
         return BracketAt::solid(a);
     };
-    bracket_with(oklab, colors, scale, a, b, color)
+    let c1 = normal_at(colors, scale, a);
+    let c2 = normal_at(colors, scale, b);
+    bracket_with(oklab, a, b, c1, c2, color)
 }

@@ -1,4 +1,4 @@
--- `seconds::normal_at` meets its contract: the entry that is read, through the table. Assumes nothing.
+-- `seconds::normal_at` meets its contract: the entry that is read. Assumes nothing.
 use borrow.Author.Needs.{needs}
 use Rattle.lookup.proofs.seconds.normal_at.Statement.{statement}
 use Rattle.lookup.proofs.seconds.normal_at.Tie as tie
@@ -6,11 +6,8 @@ use Rattle.lookup.proofs.seconds.normal_at.Tie as tie
 rgba-at-requires : tie.Need-rgba-at-requires
 rgba-at-requires c κs = search needs
 
-normalize-color-requires : tie.Need-normalize-color-requires
-normalize-color-requires c κs = search needs
-
 returns : tie.Need-returns
 returns c = cc
 
 pub normal-at-spec : {M : Type 1} → statement M
-normal-at-spec = tie.close (tie.spec rgba-at-requires normalize-color-requires returns)
+normal-at-spec = tie.close (tie.spec rgba-at-requires returns)
