@@ -2,9 +2,9 @@
 -- accepted list's answer is the first of the least distances, from the colour as it is converted. Assumes nothing.
 use mathlib.Core.Path.{_≡_, refl, sym, ap, _∙_, subst}
 use mathlib.Core.List.{List}
-use Prim.Native.Nat.{ℕ, zero, suc, _/_, _<_}
+use Prim.Native.Nat.{ℕ, zero, suc, _+_, _*_, _/_, _<_}
 use lib.Dec.{T}
-use lib.ListN.{length}
+use lib.ListN.{length, getD}
 use lib.Ieee.{Float, lt}
 use Rattle.lists.specs.Least.{Least}
 use Rattle.replies.specs.Replies.{Lowest, after}
@@ -12,14 +12,16 @@ use Rattle.replies.proofs.ReplyLaws.{after-accepted, after-refused}
 use Rattle.replies.proofs.LowestLaws.{lowest-is}
 use Rattle.color.specs.declared.NormalizedColor.{NormalizedColor}
 use Rattle.color.specs.declared.Oklab.{Oklab}
+use Rattle.color.specs.Color.{rgbaAt}
 use Rattle.color.specs.Oklab.{allInRange, oklabAt}
 use Rattle.color.proofs.Distances.{range-all-in}
 use Rattle.conversion.specs.Oklab.{toOklab}
 use Rattle.conversion.proofs.OklabLaws.{ranged}
+use Rattle.mixing.specs.Lerp.{Bytes}
 use Rattle.shortlist.specs.Candidates.{flat}
 use Rattle.shortlist.specs.Nearest.{distances, nearestIn, nearestOf}
 use Rattle.shortlist.proofs.NearestLaws.{nearest-least}
-use Rattle.lookup.specs.Second.{nearestTwoOf}
+use Rattle.lookup.specs.Second.{nearestTwoOf, NearestTwo}
 use Rattle.lookup.specs.Bracket.{bracketOf}
 use Rattle.lookup.specs.Lists.{listReplies, listNumber}
 use Rattle.lookup.specs.Answers.{nearestAnswer, nearestTwoAnswer, bracketAnswer, numberOf, numberOfTwo, numberOfBracket}
@@ -28,6 +30,7 @@ use Rattle.lookup.specs.declared.Found.the-variants as found
 use Rattle.lookup.specs.declared.FoundTwo.the-variants as two
 use Rattle.lookup.specs.declared.FoundBracket.the-variants as bracket
 use Rattle.lookup.proofs.ListLaws.{accepted}
+use Rattle.lookup.proofs.TwoLaws.{nearest-two-is, nearest-two-only}
 
 -- ---- any answer by its number
 module _ {A : Type 0} (refusal : ℕ → A) where
@@ -62,6 +65,20 @@ module _ (reduced normalized : List ℕ) (oklab : List Float) where
     flat-least e R G B = let A = accepted reduced normalized oklab e in nearest-least (flat reduced normalized oklab) (toOklab color) (A .positive) (A .ranged .range) (in-range color (toOklab color) refl R G B)
 
     module _ (width : ℕ) where
+      -- the nearest two are what document 01 says of them, and no other two are
+      module _ (e : listNumber reduced normalized oklab ≡ 0) where
+        pub flat-second : Bytes color → ((i : ℕ) → getD normalized i 0 < 256)
+            → NearestTwo (flat reduced normalized oklab) width (toOklab color) color (nearestTwoOf (flat reduced normalized oklab) width (toOklab color) color)
+        unfolding rgbaAt
+        flat-second C bytes =
+            let A = accepted reduced normalized oklab e in
+            nearest-two-is (flat reduced normalized oklab) width (toOklab color) color (A .positive) (A .ranged .range) (in-range color (toOklab color) refl (C .r) (C .g) (C .b))
+            (λ k h. record { r = bytes (4 * k); g = bytes (4 * k + 1); b = bytes (4 * k + 2) }) C
+
+        pub flat-second-only : (t u : Two) → NearestTwo (flat reduced normalized oklab) width (toOklab color) color t
+            → NearestTwo (flat reduced normalized oklab) width (toOklab color) color u → t ≡ u
+        flat-second-only = let A = accepted reduced normalized oklab e in nearest-two-only (flat reduced normalized oklab) width (toOklab color) color (A .positive) (A .ranged .range)
+
       pub nearest-two-number : numberOfTwo (nearestTwoAnswer reduced normalized oklab color width) ≡ listNumber reduced normalized oklab
       unfolding nearestTwoAnswer
       nearest-two-number = numbered two.Refused numberOfTwo (listNumber reduced normalized oklab) (two.At (nearestTwoOf (flat reduced normalized oklab) width (toOklab color) color)) refl (λ m. refl)

@@ -9,11 +9,13 @@ use Prim.Native.Nat.{ℕ, zero, suc, _+_, _≤_, _<_}
 use native.Mathlib.Nat.{not-suc-le-zero, le-antisymm, le-refl}
 use native.Mathlib.Numerals.{add-one}
 use native.Mathlib.Omega.{arith}
-use lib.Dec.{eqb}
+use lib.Dec.{T, eqb}
 use lib.ListN.{length, getD, take, length-append, List·getD-append}
 use lib.Seq.{take-suc, take-take, getD-take, length-take-le, getD-append-add}
-use lib.Ieee.{Float, lt}
-use Rattle.floats.proofs.Order.{Plain, upto-plain}
+use lib.Ieee.{Float, binary32, lt, fits}
+use lib.Ieee.Fits.{add-fits}
+use Rattle.floats.specs.Bytes.{dot}
+use Rattle.floats.proofs.Order.{Plain, upto-plain, trichotomy}
 use Rattle.lists.specs.Least.{leastOf}
 use Rattle.lists.specs.Order.{In}
 use Rattle.lists.proofs.LeastLaws.{least-step, least-one, least-inside, least-same, least-is, least-only}
@@ -202,7 +204,21 @@ module _ (p : ℕ → Bool) (e : ℕ → Float) (ks : List ℕ) where
       go [] (k ∷ ks) a b = a ∙ sym b
       go [] [] a b = a ∙ sym b
 
--- an error that is compared is finite, not negative and not -0, so no NaN arises
-pub error-plain : (normalized : ℕ → NormalizedColor) (a : ℕ) (c : NormalizedColor) (k : ℕ) → Bytes (normalized a) → Bytes (normalized k) → Bytes c → mixable normalized a c k ≡ true → Plain (mixError normalized a c k)
-error-plain normalized a c k A K C t =
-    upto-plain 3121200 (mixError normalized a c k) (residual-upto (normalized a) (normalized k) (shareOf (normalized a) (normalized k) c) c A K (between-within (shareOf (normalized a) (normalized k) c) t) C)
+-- ---- the errors that are compared
+module _ (normalized : ℕ → NormalizedColor) (a : ℕ) (c : NormalizedColor) (A : Bytes (normalized a)) (C : Bytes c) where
+  -- such an error is finite, not negative and not -0, so no NaN arises
+  pub error-plain : (k : ℕ) → Bytes (normalized k) → mixable normalized a c k ≡ true → Plain (mixError normalized a c k)
+  error-plain k K t =
+      let share : Float = shareOf (normalized a) (normalized k) c in
+      upto-plain 3121200 (mixError normalized a c k) (residual-upto (normalized a) (normalized k) share c A K (between-within share t) C)
+
+  error-fits : (k : ℕ) → T (fits binary32 (mixError normalized a c k))
+  unfolding mixResidual dot
+  error-fits k = add-fits binary32 _ _
+
+  -- one is below the other, or they are the same: on them `<` decides as the Rust's `total_cmp` does
+  pub error-order : (j k : ℕ) → Bytes (normalized j) → Bytes (normalized k) → mixable normalized a c j ≡ true → mixable normalized a c k ≡ true
+      → T (lt (mixError normalized a c j) (mixError normalized a c k))
+      ⊎ ((mixError normalized a c j ≡ mixError normalized a c k) ⊎ T (lt (mixError normalized a c k) (mixError normalized a c j)))
+  error-order j k J K s t =
+      trichotomy binary32 (mixError normalized a c j) (mixError normalized a c k) (error-plain j J s) (error-plain k K t) (error-fits j) (error-fits k)
