@@ -1,5 +1,5 @@
 -- The bracket: what the functions that make it answer; its positions are entries; one entry alone makes a solid bracket. What is picked: dark of equal
--- colours and of a NaN ratio; the number of a pick is the threshold's. Assumes nothing.
+-- colours and of a NaN ratio. Assumes nothing.
 use mathlib.Core.Path.{_≡_, refl, sym, ap, _∙_, subst}
 use mathlib.Core.Bool.{Bool, true, false, cond, not, _&&_}
 use Prim.Native.Nat.{ℕ, _<_}
@@ -12,13 +12,9 @@ use Rattle.color.specs.Color.{sameReduced}
 use Rattle.color.specs.Oklab.{allInRange}
 use Rattle.color.proofs.Same.{equal→same}
 use Rattle.mixing.specs.Lerp.{lerpOf}
-use Rattle.patterns.specs.declared.Thresholded.{Thresholded}
-use Rattle.patterns.specs.declared.Thresholded.the-variants as thresholded
-use Rattle.patterns.specs.Thresholds.{thresholdOf, numberOf}
 use Rattle.shortlist.specs.Candidates.{Candidates}
 use Rattle.lookup.specs.Second.{nearestTwoOf}
-use Rattle.lookup.specs.Bracket.{bracketWith, solidAt, bracketTwo, bracketAtOf, pickAt, pickIn, pickOf}
-use Rattle.lookup.specs.Answers.{numberOfPicked}
+use Rattle.lookup.specs.Bracket.{bracketWith, solidAt, bracketTwo, bracketAtOf, pickAt}
 use Rattle.lookup.specs.declared.BracketAt.{BracketAt}
 use Rattle.lookup.specs.declared.Bracket.{Bracket}
 use Rattle.lookup.specs.declared.Two.{Two}
@@ -87,18 +83,10 @@ bracket-entries cs width o c at e positive range = subst (λ (r : BracketAt). (r
 
 -- ---- what is picked
 
--- where the colours are equal, dark; a refusal is that of the threshold, whatever the colours are
+-- where the colours are equal, dark
 pub equal-dark : (b : Bracket) (t : Float) → b .dark ≡ b .light → pickAt b t ≡ b .dark
 unfolding pickAt
 equal-dark b t e = rw (equal→same (b .dark) (b .light) e)
-
-pub pick-number : (b : Bracket) (kind x y : ℕ) → numberOfPicked (pickOf b kind x y) ≡ numberOf (thresholdOf kind x y)
-unfolding pickOf
-pick-number b kind x y = go (thresholdOf kind x y)
-  where
-    go : (t : Thresholded) → numberOfPicked (pickIn b t) ≡ numberOf t
-    go (thresholded.At v) = refl
-    go (thresholded.Refused n) = refl
 
 -- a NaN ratio picks dark
 pub nan-dark : (b : Bracket) (t : Float) → b .ratio ≡ nan → pickAt b t ≡ b .dark

@@ -17,8 +17,8 @@ use patterns::Thresholded;
 use patterns::ordered_threshold;
 use shortlist::near::nearest_position;
 ghost use mathlib.Core.Path.{_≡_};
-ghost use Rattle.lookup.specs.Bracket.{solidAt, pickAt, pickOf};
-ghost use Rattle.lookup.specs.Answers.{nearestAnswer, nearestTwoAnswer, bracketAnswer};
+ghost use Rattle.lookup.specs.Bracket.{solidAt, pickAt};
+ghost use Rattle.lookup.specs.Answers.{FlatNearest, FlatTwo, FlatBracket, PickedAt};
 
 // ---- what the lookups answer
 
@@ -122,7 +122,7 @@ pub fn pick_at(bracket: Bracket, threshold: f32) -> ReducedColor
 
 // The colour for column x and row y; 1 for a kind above 10, 9 for one that has no matrix, also where the colours are equal.
 pub fn pick(bracket: Bracket, kind: u32, x: u32, y: u32) -> Picked
-    ensures { λ r. ⌜ r ≡ pickOf bracket kind x y ⌝ }
+    ensures { λ r. ⌜ PickedAt bracket kind x y r ⌝ }
 {
     match ordered_threshold(kind, x, y) {
         Thresholded::At(threshold) => Picked::Color(pick_at(bracket, threshold)),
@@ -140,7 +140,7 @@ pub fn flat_nearest(
     oklab: &[f32],
     color: NormalizedColor,
 ) -> Found
-    ensures { λ r. ⌜ r ≡ nearestAnswer (now (reduced .entry)) (now (normalized .entry)) (now (oklab .entry)) color ⌝ }
+    ensures { λ r. ⌜ FlatNearest (now (reduced .entry)) (now (normalized .entry)) (now (oklab .entry)) color r ⌝ }
 {
     let refusal = list_refusal(reduced, normalized, oklab);
     if refusal != 0 {
@@ -157,7 +157,7 @@ pub fn flat_nearest_two(
     color: NormalizedColor,
     width: u64,
 ) -> FoundTwo
-    ensures { λ r. ⌜ r ≡ nearestTwoAnswer (now (reduced .entry)) (now (normalized .entry)) (now (oklab .entry)) color width ⌝ }
+    ensures { λ r. ⌜ FlatTwo (now (reduced .entry)) (now (normalized .entry)) (now (oklab .entry)) color width r ⌝ }
 {
     let refusal = list_refusal(reduced, normalized, oklab);
     if refusal != 0 {
@@ -174,7 +174,7 @@ pub fn flat_ordered_bracket(
     color: NormalizedColor,
     width: u64,
 ) -> FoundBracket
-    ensures { λ r. ⌜ r ≡ bracketAnswer (now (reduced .entry)) (now (normalized .entry)) (now (oklab .entry)) color width ⌝ }
+    ensures { λ r. ⌜ FlatBracket (now (reduced .entry)) (now (normalized .entry)) (now (oklab .entry)) color width r ⌝ }
 {
     let refusal = list_refusal(reduced, normalized, oklab);
     if refusal != 0 {
