@@ -7,6 +7,6 @@ pub mod AgreeLaws
 pub mod ShortLaws
 pub mod AnswerLaws
 mod Said
-mod Told
+pub mod Told
 mod ShortWalk
 pub mod Unique

@@ -41,7 +41,7 @@ pub record Accepted (list : List CandidateColor) : Type 0 where
 pub accepted : (list : List CandidateColor) → recordsNumber list ≡ 0 → Accepted list
 unfolding numberBy
 accepted list e =
-    let a = reply-none (recordReplies (length list) (rangedTo list (length list))) tt e in
+    let a = reply-none (recordReplies list) tt e in
     let n = counted (length list) (not-false (countFits (length list)) (a .0)) in
     let r : T (rangedTo list (length list)) = holds (not-false (rangedTo list (length list)) (a .1 .0)) in
     record { positive = n .0; few = n .1; ranged = r; range = ranged-all list (length list) r }

@@ -66,8 +66,8 @@ values (τ ∷ τs) = local τ valueLocal ∷ values τs
 abbrev ShortenedC : {M : Type 1} (𝓤 : URA M) (H : Heap 𝓤) (A : Atoms 𝓤) (mem : Memory → SProp 𝓤) (run : Routine → Fun 𝓤) → Contract 𝓤
 ShortenedC 𝓤 H A mem run = tripleOf 𝓤 H A shortened.signature (shortened.spec 𝓤 H A mem run)
 
--- ---- the result, what is answered, and the function that answers it from the short list
-module _ (R : RattleType) (answer : List CandidateColor → NormalizedColor → ℕ → R .Denot) (#of : Name) where
+-- ---- the result, what is promised of it, and the function that answers it from the short list
+module _ (R : RattleType) (Promise : List CandidateColor → NormalizedColor → ℕ → R .Denot → Type 0) (#of : Name) where
   -- the MIR
   abbrev function : Fn
   function = record {
@@ -88,14 +88,14 @@ module _ (R : RattleType) (answer : List CandidateColor → NormalizedColor → 
   of-ended = record { signature = record { lifetimes = 0; outlives = []; params = plain (λ _. N.the-row) ∷ plain (λ _. O.the-row) ∷ plain (λ _. u64) ∷ []; result = plain (λ _. R) }; kept = (yes, (yes, (yes, tt))) }
 
   abbrev Found : Short → NormalizedColor → ℕ → R .Denot → Type 0
-  Found s t w r = (list : List CandidateColor) → Shortened list w t s → r ≡ answer list t w
+  Found s t w r = (list : List CandidateColor) → Shortened list w t s → Promise list t w r
 
   abbrev stayed : Stays (ended .signature .params) (ended .kept)
   stayed = (stay-none (λ _. O.the-row) yes, (stay-none-slice (0 ∷ []) tt (plain (λ _. E.the-row)) yes, (stay-none (λ _. u64) yes, tt)))
 
   module _ {M : Type 1} (𝓤 : URA M) where
     abbrev clauses : Clauses 𝓤 ended
-    clauses κs a = record { ghost = Unit {0}; requires = λ g. emp 𝓤; ensures = λ g r e. fact 𝓤 (r ≡ answer (a .1 .0 .now) (a .0) (a .1 .1 .0)) }
+    clauses κs a = record { ghost = Unit {0}; requires = λ g. emp 𝓤; ensures = λ g r e. fact 𝓤 (Promise (a .1 .0 .now) (a .0) (a .1 .1 .0) r) }
 
     abbrev of-clauses : Clauses 𝓤 of-ended
     of-clauses κs a = record { ghost = Unit {0}; requires = λ g. fact 𝓤 (Roomy (a .0)); ensures = λ g r e. fact 𝓤 (Found (a .0) (a .1 .0) (a .1 .1 .0) r) }
@@ -123,7 +123,7 @@ module _ (R : RattleType) (answer : List CandidateColor → NormalizedColor → 
       abbrev Post : Val → SProp 𝓤
       Post = walkOf 𝓤 H A ended stayed (clauses 𝓤) .post (((κ, tt), (q, tt), tt, (t, (list, (w, tt))), at), tt)
 
-      exits : (r : R .Denot) (v : Val) → r ≡ answer ys t w → ent 𝓤 (⋆ 𝓤 H A (‵ (R .own r (v ∷ [])) ∷ (‵ (flft κ q) ⊛ ‵ ftrue) ∷ ‵ Own ∷ ‵ (owns (u64 ∷ []) (w, tt) (vint w64 w ∷ [], tt)) ∷ ‵ (O.the-row .own t (mt ∷ [])) ∷ [])) (Post v)
+      exits : (r : R .Denot) (v : Val) → Promise ys t w r → ent 𝓤 (⋆ 𝓤 H A (‵ (R .own r (v ∷ [])) ∷ (‵ (flft κ q) ⊛ ‵ ftrue) ∷ ‵ Own ∷ ‵ (owns (u64 ∷ []) (w, tt) (vint w64 w ∷ [], tt)) ∷ ‵ (O.the-row .own t (mt ∷ [])) ∷ [])) (Post v)
       exits r v e =
           qed W (‵ (R .own r (v ∷ [])) ∷ (‵ (flft κ q) ⊛ ‵ ftrue) ∷ ‵ Own ∷ ‵ (owns (u64 ∷ []) (w, tt) (vint w64 w ∷ [], tt)) ∷ ‵ (O.the-row .own t (mt ∷ [])) ∷ []) ∵
           suffices ! _ (ends-at 𝓤 H A ended stayed (clauses 𝓤) W (((κ, tt), (q, tt), tt, (t, (list, (w, tt))), at), tt) v r (tt, (tt, (tt, tt))) (tt, (tt, (tt, tt)))) $ says ! e $

@@ -29,7 +29,7 @@ ghost use Rattle.color.specs.Oklab.{allInRange, floatsOf};
 ghost use Rattle.conversion.specs.Oklab.{toOklab};
 ghost use Rattle.shortlist.specs.Nearest.{nearestOf};
 ghost use Rattle.records.specs.Lists.{recordAt, candidatesOf, numberBy, recordsNumber};
-ghost use Rattle.records.specs.Answers.{recordsAt, nearestRecord, nearestTwoRecords, recordsBracket};
+ghost use Rattle.records.specs.Answers.{recordsAt, NearestRecord, NearestTwoRecords, RecordsBracket};
 ghost use Rattle.records.specs.Keeping.{Passed, inLine, LaidIn, Roomy, recordIn, Shortened};
 
 // The number of the list, and at most 17 records taken apart.
@@ -57,7 +57,7 @@ fn refusal(len: usize, ranged: bool) -> u8
 // The answer of `nearest` after its pass.
 pub fn chosen(len: usize, near: Pass) -> FoundRecord
     ensures { λ r. ⌜ ((list : List Rec) (color : NormalizedColor) → len ≡ length list → T (allInRange (toOklab color))
-        → Passed list (toOklab color) (length list) 1 (length list) near → r ≡ nearestRecord list color) ⌝ }
+        → Passed list (toOklab color) (length list) 1 (length list) near → NearestRecord list color r) ⌝ }
 {
     let number = refusal(len, near.ranged);
     if number != 0 {
@@ -193,7 +193,7 @@ fn records_in(s: Short, two: Two) -> FoundRecords
 // The answer of `nearest_two` over the short list. No public call: the caller sees to the arrays.
 pub fn two_of(s: Short, color: NormalizedColor, width: u64) -> FoundRecords
     requires { ⌜ Roomy s ⌝ }
-    ensures { λ r. ⌜ ((list : List Rec) → Shortened list width color s → r ≡ nearestTwoRecords list color width) ⌝ }
+    ensures { λ r. ⌜ ((list : List Rec) → Shortened list width color s → NearestTwoRecords list color width r) ⌝ }
 {
     let number = s.number;
     if number != 0 {
@@ -219,7 +219,7 @@ pub fn two_of(s: Short, color: NormalizedColor, width: u64) -> FoundRecords
 // The answer of `ordered_bracket` over the short list. No public call: the caller sees to the arrays.
 pub fn bracket_of(s: Short, color: NormalizedColor, width: u64) -> FoundBracket
     requires { ⌜ Roomy s ⌝ }
-    ensures { λ r. ⌜ ((list : List Rec) → Shortened list width color s → r ≡ recordsBracket list color width) ⌝ }
+    ensures { λ r. ⌜ ((list : List Rec) → Shortened list width color s → RecordsBracket list color width r) ⌝ }
 {
     let number = s.number;
     if number != 0 {

@@ -1,7 +1,7 @@
 -- `records::nearest` meets its contract: a walk of its MIR, by hand. It calls `toward`, `scan` and `chosen`, of which all that the proof knows is that
 -- they meet their contracts. The slice is Copy: what it owns is had twice, one copy goes to `scan` beside the lifetime's token, which comes back, and
 -- one is kept for the exit. What a plain value owns is made anew for each call. Assumes nothing.
-use mathlib.Core.Path.{_≡_, refl}
+use mathlib.Core.Path.{refl}
 use Prim.Native.Nat.{ℕ, _<_, _^_}
 use mathlib.Core.List.{List, [], _∷_}
 use lib.ListN.{length}
@@ -42,7 +42,7 @@ use Rattle.color.specs.declared.NormalizedColor.{NormalizedColor}
 use Rattle.conversion.specs.Oklab.{toOklab}
 use Rattle.records.specs.declared.passes.Pass.{Pass}
 use Rattle.records.specs.declared.FoundRecord.{FoundRecord}
-use Rattle.records.specs.Answers.{nearestRecord}
+use Rattle.records.specs.Answers.{NearestRecord}
 use Rattle.records.proofs.Told.{told, told-plain}
 use Rattle.records.proofs.Said.{Begun, Scanned, Chose}
 use Rattle.color.proofs.CandidateColor as T
@@ -102,7 +102,7 @@ module _ {M : Type 1} (𝓤 : URA M) (H : Heap 𝓤) (A : Atoms 𝓤) (W : Given
   abbrev Post : Val → SProp 𝓤
   Post = walkOf 𝓤 H A f.ended stayed (f.clauses 𝓤 H A mem run) .post (((κ, tt), (q, tt), tt, (list, (t, tt)), at), tt)
 
-  exits : (r : FoundRecord) (v : Val) → r ≡ nearestRecord ys t → ent 𝓤 (⋆ 𝓤 H A (‵ (R.the-row .own r (v ∷ [])) ∷ (‵ (flft κ q) ⊛ ‵ ftrue) ∷ ‵ Own ∷ ‵ (owns (O.the-row ∷ []) (t, tt) (mt ∷ [], tt)) ∷ [])) (Post v)
+  exits : (r : FoundRecord) (v : Val) → NearestRecord ys t r → ent 𝓤 (⋆ 𝓤 H A (‵ (R.the-row .own r (v ∷ [])) ∷ (‵ (flft κ q) ⊛ ‵ ftrue) ∷ ‵ Own ∷ ‵ (owns (O.the-row ∷ []) (t, tt) (mt ∷ [], tt)) ∷ [])) (Post v)
   exits r v e =
       qed W (‵ (R.the-row .own r (v ∷ [])) ∷ (‵ (flft κ q) ⊛ ‵ ftrue) ∷ ‵ Own ∷ ‵ (owns (O.the-row ∷ []) (t, tt) (mt ∷ [], tt)) ∷ []) ∵
       suffices ! _ (ends-at 𝓤 H A f.ended stayed (f.clauses 𝓤 H A mem run) W (((κ, tt), (q, tt), tt, (list, (t, tt)), at), tt) v r (tt, (tt, tt)) (tt, (tt, tt))) $ says ! e $

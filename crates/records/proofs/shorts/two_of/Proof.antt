@@ -1,15 +1,11 @@
 -- `shorts::two_of` meets its contract: the refusal, or the flat lookup over the short list, and the records at its positions. Assumes nothing.
-use Rattle.lookup.proofs.AnswerLaws.{refused}
-use Rattle.records.specs.Answers.{nearestTwoRecords}
-use Rattle.records.specs.declared.FoundRecords.the-variants.{Refused}
-use Rattle.records.proofs.AnswerLaws.{fits, fronts, two-few, two-found, two-not-found}
+use Rattle.records.proofs.AnswerLaws.{two-refused, fits, fronts, two-few, two-found, two-not-found}
 use borrow.Author.Needs.{needs}
 use Rattle.records.proofs.shorts.two_of.Statement.{statement}
 use Rattle.records.proofs.shorts.two_of.Tie as tie
 
 returns : tie.Need-returns
-unfolding nearestTwoRecords
-returns c list S = refused Refused _ _ _ (S .number) (c .if1 .taken)
+returns c list S = two-refused list _ (S .number) (c .if1 .taken) _
 
 mul-bytes : tie.Need-mul-bytes
 mul-bytes c = search needs
