@@ -49,6 +49,7 @@ use Rattle.lookup.specs.declared.FoundTwo.{FoundTwo}
 use Rattle.lookup.specs.declared.FoundTwo.the-variants as two
 use Rattle.lookup.specs.declared.FoundBracket.{FoundBracket}
 use Rattle.lookup.specs.declared.FoundBracket.the-variants as bracket
+use Rattle.lookup.specs.declared.Picked.{Picked}
 use Rattle.lookup.specs.declared.Picked.the-variants as picked
 use Rattle.lookup.proofs.ListLaws.{accepted}
 use Rattle.lookup.proofs.TwoLaws.{nearest-two-is, nearest-two-only}
@@ -71,7 +72,7 @@ module _ {A : Type 0} (number : A → ℕ) (replies : List Reply) (answer refusa
   granted z r g = answers number replies answer own-number (g ∙ ap answer (sym z ∙ e))
 
 -- the number of an answer is the lowest that applies, where the replies rise
-pub lowest-number : {A : Type 0} {number : A → ℕ} {replies : List Reply} {answer : ℕ → A} {r : A} → Answers number replies answer r → T (risingFrom 0 replies)
+lowest-number : {A : Type 0} {number : A → ℕ} {replies : List Reply} {answer : ℕ → A} {r : A} → Answers number replies answer r → T (risingFrom 0 replies)
     → Lowest replies (number r)
 lowest-number {replies = replies} a h = subst (Lowest replies) (sym (a .number)) (lowest-is replies h)
 
@@ -81,11 +82,6 @@ in-range color o e R G B = subst (λ (p : Oklab). T (allInRange p)) (sym e) (ran
 
 -- ---- the lookups over flat lists
 module _ (reduced normalized : List ℕ) (oklab : List Float) where
-  -- the number of a list is the lowest that applies
-  pub number-is : Lowest (listReplies reduced normalized oklab) (listNumber reduced normalized oklab)
-  unfolding listNumber
-  number-is = lowest-is (listReplies reduced normalized oklab) tt
-
   module _ (color : NormalizedColor) where
     -- what `flat_nearest` answers, from the number that `list_refusal` found
     module _ (n : ℕ) (e : n ≡ listNumber reduced normalized oklab) where
@@ -99,6 +95,9 @@ module _ (reduced normalized : List ℕ) (oklab : List Float) where
       nearest-accepted z o k p q =
           granted numberOf _ (nearestAnswer reduced normalized oklab color) found.Refused refl (λ m. refl) (λ m. refl) n e z (found.At k)
           (ap found.At (q ∙ ap (nearestIn (oklabAt oklab) (length reduced / 4)) p))
+
+    pub nearest-lowest : {r : Found} → FlatNearest reduced normalized oklab color r → Lowest (listReplies reduced normalized oklab) (numberOf r)
+    nearest-lowest a = lowest-number a tt
 
     -- a position is answered of an accepted list
     pub nearest-given : {x : Found} {k : ℕ} → FlatNearest reduced normalized oklab color x → x ≡ found.At k
@@ -116,7 +115,8 @@ module _ (reduced normalized : List ℕ) (oklab : List Float) where
         let g = nearest-given a refl in
         let A = accepted reduced normalized oklab (g .0) in
         subst (Least lt (distances (toOklab color) (oklabAt oklab)) (length reduced / 4)) (sym (g .1))
-        (nearest-least (flat reduced normalized oklab) (toOklab color) (A .positive) (A .ranged .range) (in-range color (toOklab color) refl (C .r) (C .g) (C .b)))
+        (nearest-least (flat reduced normalized oklab) (toOklab color) (A .positive) (A .ranged .range)
+        (in-range color (toOklab color) refl (C .r) (C .g) (C .b)))
 
     module _ (width : ℕ) where
       module _ (n : ℕ) (e : n ≡ listNumber reduced normalized oklab) where
@@ -141,6 +141,13 @@ module _ (reduced normalized : List ℕ) (oklab : List Float) where
         bracket-accepted z o b p q =
             granted numberOfBracket _ (bracketAnswer reduced normalized oklab color width) bracket.Refused refl (λ m. refl) (λ m. refl) n e z (bracket.Of b)
             (ap bracket.Of (q ∙ ap (λ (u : Oklab). bracketOf (flat reduced normalized oklab) width u color) p))
+
+      pub two-lowest : {r : FoundTwo} → FlatTwo reduced normalized oklab color width r → Lowest (listReplies reduced normalized oklab) (numberOfTwo r)
+      two-lowest a = lowest-number a tt
+
+      pub bracket-lowest : {r : FoundBracket} → FlatBracket reduced normalized oklab color width r
+          → Lowest (listReplies reduced normalized oklab) (numberOfBracket r)
+      bracket-lowest a = lowest-number a tt
 
       -- two positions are answered of an accepted list
       pub two-given : {x : FoundTwo} {t : Two} → FlatTwo reduced normalized oklab color width x → x ≡ two.At t
@@ -171,6 +178,9 @@ module _ (reduced normalized : List ℕ) (oklab : List Float) where
           nearest-two-only (flat reduced normalized oklab) width (toOklab color) color (A .positive) (A .ranged .range)
 
 -- ---- pick
+pub pick-lowest : (b : Bracket) (kind x y : ℕ) {r : Picked} → PickedAt b kind x y r → Lowest (pickReplies kind) (numberOfPicked r)
+pick-lowest b kind x y a = lowest-number a tt
+
 module _ (b : Bracket) (kind x y : ℕ) (t : Thresholded) (e : t ≡ thresholdOf kind x y) where
   -- its number is that of the threshold
   threshold-number : patterns.numberOf t ≡ firstReply (pickReplies kind)
@@ -202,7 +212,8 @@ module _ (b : Bracket) (kind x y : ℕ) (t : Thresholded) (e : t ≡ thresholdOf
 
   pub pick-accepted : (v : Float) → t ≡ thresholded.At v → (c : ReducedColor) → c ≡ pickAt b v → PickedAt b kind x y (picked.Color c)
   pick-accepted v q c p =
-      granted numberOfPicked _ (pickAnswer b kind x y) picked.Refused refl (λ m. refl) (λ m. refl) 0 number refl (picked.Color c) (ap picked.Color (p ∙ ap (pickAt b) value))
+      granted numberOfPicked _ (pickAnswer b kind x y) picked.Refused refl (λ m. refl) (λ m. refl) 0 number refl (picked.Color c)
+      (ap picked.Color (p ∙ ap (pickAt b) value))
     where
       number : 0 ≡ firstReply (pickReplies kind)
       number = ap patterns.numberOf (sym q) ∙ threshold-number

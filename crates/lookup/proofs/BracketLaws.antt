@@ -23,7 +23,8 @@ use Rattle.lookup.specs.declared.Second.the-variants.{At, Nothing}
 use Rattle.lookup.proofs.TwoLaws.{first-inside, second-inside, one-alone}
 
 -- ---- what `bracket_with` answers
-module _ (oklab : ℕ → Oklab) (a b : ℕ) (c1 c2 c : NormalizedColor) (p q : Oklab) (t : Float) (P : p ≡ oklab a) (Q : q ≡ oklab b) (ratio : t ≡ lerpOf c1 c2 c true) where
+module _ (oklab : ℕ → Oklab) (a b : ℕ) (c1 c2 c : NormalizedColor) (p q : Oklab) (t : Float) (P : p ≡ oklab a) (Q : q ≡ oklab b)
+    (ratio : t ≡ lerpOf c1 c2 c true) where
   test : (u : Bool) → le (p .l) (q .l) ≡ u → le (oklab a .l) (oklab b .l) ≡ u
   test u e = (λ i. le (sym P i .l) (sym Q i .l)) ∙ e
 
@@ -40,7 +41,9 @@ module _ (cs : Candidates) (width : ℕ) (o : Oklab) (c : NormalizedColor) where
   module _ (two : Two) (e : two ≡ nearestTwoOf cs width o c) (r : BracketAt) where
     by-second : (s : Second) → two .second ≡ s → r ≡ bracketTwo (cs .oklab) (cs .normalized) c (two .first) s → r ≡ bracketAtOf cs width o c
     unfolding bracketAtOf
-    by-second s q h = h ∙ ap (bracketTwo (cs .oklab) (cs .normalized) c (two .first)) (sym q) ∙ ap (λ (t : Two). bracketTwo (cs .oklab) (cs .normalized) c (t .first) (t .second)) e
+    by-second s q h =
+        h ∙ ap (bracketTwo (cs .oklab) (cs .normalized) c (two .first)) (sym q)
+        ∙ ap (λ (t : Two). bracketTwo (cs .oklab) (cs .normalized) c (t .first) (t .second)) e
 
     pub solid-is : two .second ≡ Nothing → r ≡ solidAt (two .first) → r ≡ bracketAtOf cs width o c
     solid-is q h = by-second Nothing q h
@@ -55,7 +58,8 @@ module _ (cs : Candidates) (width : ℕ) (o : Oklab) (c : NormalizedColor) where
     one-solid h = sym (solid-is (nearestTwoOf cs width o c) refl (solidAt (nearestTwoOf cs width o c .first)) (one-alone cs width o c positive h) refl)
 
     -- dark and light are entries
-    pub bracket-inside : ((k : ℕ) → k < cs .count → T (allInRange (cs .oklab k))) → (bracketAtOf cs width o c .dark < cs .count) × (bracketAtOf cs width o c .light < cs .count)
+    pub bracket-inside : ((k : ℕ) → k < cs .count → T (allInRange (cs .oklab k)))
+        → (bracketAtOf cs width o c .dark < cs .count) × (bracketAtOf cs width o c .light < cs .count)
     unfolding bracketAtOf bracketWith
     bracket-inside range = go (nearestTwoOf cs width o c .second) (second-inside cs width o c positive range)
       where
@@ -68,18 +72,22 @@ module _ (cs : Candidates) (width : ℕ) (o : Oklab) (c : NormalizedColor) where
         Inside : BracketAt → Type 0
         Inside r = (r .dark < cs .count) × (r .light < cs .count)
 
-        ends : (u : Bool) (b : ℕ) (x y : Float) → b < cs .count → Inside (cond u (record { dark = a; light = b; ratio = x }) (record { dark = b; light = a; ratio = y }))
+        ends : (u : Bool) (b : ℕ) (x y : Float) → b < cs .count
+            → Inside (cond u (record { dark = a; light = b; ratio = x }) (record { dark = b; light = a; ratio = y }))
         ends true b x y B = (A, B)
         ends false b x y B = (B, A)
 
-        go : (s : Second) → ((b : ℕ) → s ≡ At b → b < cs .count) → (bracketTwo (cs .oklab) (cs .normalized) c a s .dark < cs .count) × (bracketTwo (cs .oklab) (cs .normalized) c a s .light < cs .count)
+        go : (s : Second) → ((b : ℕ) → s ≡ At b → b < cs .count)
+            → (bracketTwo (cs .oklab) (cs .normalized) c a s .dark < cs .count) × (bracketTwo (cs .oklab) (cs .normalized) c a s .light < cs .count)
         go Nothing h = (A, A)
         go (At b) h = ends (le (cs .oklab a .l) (cs .oklab b .l)) b _ _ (h b refl)
 
 -- the same of an answer that is equal to it
-pub bracket-entries : (cs : Candidates) (width : ℕ) (o : Oklab) (c : NormalizedColor) (at : BracketAt) → at ≡ bracketAtOf cs width o c → 0 < cs .count → ((k : ℕ) → k < cs .count → T (allInRange (cs .oklab k)))
+pub bracket-entries : (cs : Candidates) (width : ℕ) (o : Oklab) (c : NormalizedColor) (at : BracketAt) → at ≡ bracketAtOf cs width o c → 0 < cs .count
+    → ((k : ℕ) → k < cs .count → T (allInRange (cs .oklab k)))
     → (at .dark < cs .count) × (at .light < cs .count)
-bracket-entries cs width o c at e positive range = subst (λ (r : BracketAt). (r .dark < cs .count) × (r .light < cs .count)) (sym e) (bracket-inside cs width o c positive range)
+bracket-entries cs width o c at e positive range =
+    subst (λ (r : BracketAt). (r .dark < cs .count) × (r .light < cs .count)) (sym e) (bracket-inside cs width o c positive range)
 
 -- ---- what is picked
 

@@ -45,7 +45,8 @@ inside : (xs : List Float) → ltb (firstOutside xs) (length xs) ≡ false → (
 unfolding firstOutside
 inside xs e k h =
     let f = first-is (λ j. not (inRange (getD xs j nan))) (length xs) in
-    let l : length xs ≤ firstThat (λ j. not (inRange (getD xs j nan))) (length xs) = ltb-false (firstThat (λ j. not (inRange (getD xs j nan))) (length xs)) (length xs) e in
+    let l : length xs ≤ firstThat (λ j. not (inRange (getD xs j nan))) (length xs) =
+    ltb-false (firstThat (λ j. not (inRange (getD xs j nan))) (length xs)) (length xs) e in
     twice (inRange (getD xs k nan)) (f .before k (omega arith))
 
 pub accepted : (reduced normalized : List ℕ) (oklab : List Float) → listNumber reduced normalized oklab ≡ 0 → Accepted reduced normalized oklab
@@ -62,7 +63,9 @@ accepted reduced normalized oklab e =
       same = l .1;
       ranged = record {
         long = omega (arith, l .2);
-        range = λ k h. and-i (inRange (getD oklab (3 * k) nan)) _ (c (3 * k) (omega (arith, l .2))) (and-i (inRange (getD oklab (3 * k + 1) nan)) (inRange (getD oklab (3 * k + 2) nan)) (c (3 * k + 1) (omega (arith, l .2))) (c (3 * k + 2) (omega (arith, l .2))));
+        range = λ k h. and-i (inRange (getD oklab (3 * k) nan)) _ (c (3 * k) (omega (arith, l .2)))
+            (and-i (inRange (getD oklab (3 * k + 1) nan)) (inRange (getD oklab (3 * k + 2) nan)) (c (3 * k + 1) (omega (arith, l .2)))
+            (c (3 * k + 2) (omega (arith, l .2))));
       };
     }
 

@@ -71,29 +71,35 @@ held-more e best [] k h =
     subst (λ (b : ℕ). Held e (cond (eqb b 0 || lt (e k) (best .error)) (record { found = 1; error = e k; position = k }) best) (k ∷ [])) (sym h)
     (refl, sym (among-one e k), ap e (sym (among-one e k)))
 held-more e best (j ∷ js) k h =
-    subst (λ (b : ℕ). Held e (cond (eqb b 0 || lt (e k) (best .error)) (record { found = 1; error = e k; position = k }) best) (j ∷ (js ++ k ∷ []))) (sym (h .0))
+    subst (λ (b : ℕ). Held e (cond (eqb b 0 || lt (e k) (best .error)) (record { found = 1; error = e k; position = k }) best) (j ∷ (js ++ k ∷ [])))
+    (sym (h .0))
     (go (lt (e k) (best .error)) (ap (lt (e k)) (sym (h .2))))
   where
     go : (u : Bool) → lt (e k) (e (leastAmong e (j ∷ js))) ≡ u → Held e (cond u (record { found = 1; error = e k; position = k }) best) (j ∷ (js ++ k ∷ []))
     go true g = let m : k ≡ leastAmong e (j ∷ (js ++ k ∷ [])) = sym (among-more e (j ∷ js) k (omega arith) ∙ rw g) in (refl, m, ap e m)
-    go false g = let m : leastAmong e (j ∷ js) ≡ leastAmong e (j ∷ (js ++ k ∷ [])) = sym (among-more e (j ∷ js) k (omega arith) ∙ rw g) in (h .0, h .1 ∙ m, h .2 ∙ ap e m)
+    go false g =
+        let m : leastAmong e (j ∷ js) ≡ leastAmong e (j ∷ (js ++ k ∷ [])) = sym (among-more e (j ∷ js) k (omega arith) ∙ rw g) in
+        (h .0, h .1 ∙ m, h .2 ∙ ap e m)
 
 those-more : (p : ℕ → Bool) (xs : List ℕ) (k : ℕ) → those p (xs ++ k ∷ []) ≡ cond (p k) (those p xs ++ k ∷ []) (those p xs)
 those-more p [] k = refl
 those-more p (x ∷ xs) k = go (p x) (p k) (those-more p xs k)
   where
     go : (u v : Bool) → those p (xs ++ k ∷ []) ≡ cond v (those p xs ++ k ∷ []) (those p xs)
-        → cond u (x ∷ those p (xs ++ k ∷ [])) (those p (xs ++ k ∷ [])) ≡ cond v (cond u (x ∷ those p xs) (those p xs) ++ k ∷ []) (cond u (x ∷ those p xs) (those p xs))
+        → cond u (x ∷ those p (xs ++ k ∷ [])) (those p (xs ++ k ∷ []))
+        ≡ cond v (cond u (x ∷ those p xs) (those p xs) ++ k ∷ []) (cond u (x ∷ those p xs) (those p xs))
     go true true q = ap (λ (l : List ℕ). x ∷ l) q
     go true false q = ap (λ (l : List ℕ). x ∷ l) q
     go false true q = q
     go false false q = q
 
 -- what `weigh` answers
-pub weighed-is : (best r : Best) (k : ℕ) (a b c : NormalizedColor) (t : Float) (s : Bool) (x : Float) → t ≡ lerpOf a b c false → s ≡ between t → x ≡ mixResidual a b t c → r ≡ improved best k s x → r ≡ weighed best k a b c
+pub weighed-is : (best r : Best) (k : ℕ) (a b c : NormalizedColor) (t : Float) (s : Bool) (x : Float) → t ≡ lerpOf a b c false → s ≡ between t
+    → x ≡ mixResidual a b t c → r ≡ improved best k s x → r ≡ weighed best k a b c
 unfolding weighed lerpOf
 weighed-is best r k a b c t s x T S X e =
-    e ∙ ap (λ (u : Bool). improved best k u x) (S ∙ ap between T) ∙ ap (improved best k (between (shareOf a b c))) (X ∙ ap (λ (v : Float). mixResidual a b v c) T)
+    e ∙ ap (λ (u : Bool). improved best k u x) (S ∙ ap between T)
+    ∙ ap (improved best k (between (shareOf a b c))) (X ∙ ap (λ (v : Float). mixResidual a b v c) T)
 
 -- the first i of the first n of an array have had their turn beside entry a, whose colour is c1
 pub record Weighing (normalized : ℕ → NormalizedColor) (a : ℕ) (c c1 : NormalizedColor) (ps : List ℕ) (n i : ℕ) (best : Best) : Type 0 where
@@ -118,7 +124,8 @@ module _ (normalized : ℕ → NormalizedColor) (a : ℕ) (c : NormalizedColor) 
 
     -- a turn of the loop
     pub weighing-more : {c1 : NormalizedColor} {i : ℕ} {best : Best} → Weighing normalized a c c1 ps n i best → i < n → n ≤ length ps
-        → (c2 : NormalizedColor) → c2 ≡ normalized (getD ps i 0) → (r : Best) → r ≡ weighed best (getD ps i 0) c1 c2 c → Weighing normalized a c c1 ps n (i + 1) r
+        → (c2 : NormalizedColor) → c2 ≡ normalized (getD ps i 0) → (r : Best) → r ≡ weighed best (getD ps i 0) c1 c2 c
+        → Weighing normalized a c c1 ps n (i + 1) r
     weighing-more {c1} {i} {best} w h l c2 q r e =
         let k : ℕ = getD ps i 0 in
         let at : getD (take n ps) i 0 ≡ k = getD-take n ps i 0 h in
@@ -128,7 +135,8 @@ module _ (normalized : ℕ → NormalizedColor) (a : ℕ) (c : NormalizedColor) 
         let same : r ≡ weighed best k (normalized a) (normalized k) c = e ∙ (λ j. weighed best k (w .beside j) (q j) c) in
         record { passed = omega arith; beside = w .beside; held = rw (next, same) (one-more best (take i (take n ps)) k (w .held)) }
 
-    pub weighing-all : {c1 : NormalizedColor} {i : ℕ} {best : Best} → Weighing normalized a c c1 ps n i best → n ≤ i → BestBeside normalized a c (take n ps) best
+    pub weighing-all : {c1 : NormalizedColor} {i : ℕ} {best : Best} → Weighing normalized a c c1 ps n i best → n ≤ i
+        → BestBeside normalized a c (take n ps) best
     weighing-all {i = i} {best = best} w l =
         subst (λ (ks : List ℕ). BestBeside normalized a c ks best)
         (ap (λ (m : ℕ). take m (take n ps)) (le-antisymm (w .passed) l) ∙ take-take n n ps (le-refl n)) (w .held)
@@ -192,7 +200,8 @@ module _ (p : ℕ → Bool) (e : ℕ → Float) (ks : List ℕ) where
       is qs = refl
 
       go : (qs ks : List ℕ) → ((k : ℕ) → In k qs → Plain (e k)) → IsSecondIn e qs ks (secondIn e qs ks)
-      go (q ∷ qs) ks h = (leastOf lt (λ (j : ℕ). e (getD (q ∷ qs) j 0)) (length (q ∷ qs)), least-is by-lt (length (q ∷ qs)) (omega arith) (known (q ∷ qs) h), is (q ∷ qs))
+      go (q ∷ qs) ks h =
+          (leastOf lt (λ (j : ℕ). e (getD (q ∷ qs) j 0)) (length (q ∷ qs)), least-is by-lt (length (q ∷ qs)) (omega arith) (known (q ∷ qs) h), is (q ∷ qs))
       go [] (k ∷ ks) h = refl
       go [] [] h = refl
 

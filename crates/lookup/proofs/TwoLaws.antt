@@ -32,10 +32,12 @@ use Rattle.lookup.proofs.SecondLaws.{second-in, second-is, second-only,
 
 module _ (cs : Candidates) (width : ℕ) (o : Oklab) (c : NormalizedColor) where
   pub two-is : (a : ℕ) (ps : List ℕ) (r : Second) → a ≡ nearestOf cs o → ps ≡ shortlistOf (distances (cs .oklab a) (cs .oklab)) a (cs .count) width
-      → r ≡ secondOf (mixable (cs .normalized) a c) (mixError (cs .normalized) a c) ps → _≡_ {A = Two} (record { first = a; second = r }) (nearestTwoOf cs width o c)
+      → r ≡ secondOf (mixable (cs .normalized) a c) (mixError (cs .normalized) a c) ps
+      → _≡_ {A = Two} (record { first = a; second = r }) (nearestTwoOf cs width o c)
   unfolding nearestTwoOf
   two-is a ps r p q e =
-      let s : r ≡ secondTo cs width c (nearestOf cs o) = e ∙ ap (secondOf (mixable (cs .normalized) a c) (mixError (cs .normalized) a c)) q ∙ ap (secondTo cs width c) p in
+      let s : r ≡ secondTo cs width c (nearestOf cs o) =
+      e ∙ ap (secondOf (mixable (cs .normalized) a c) (mixError (cs .normalized) a c)) q ∙ ap (secondTo cs width c) p in
       λ i. record { first = p i; second = s i }
 
   -- ---- with one candidate there is no second, with more there is
@@ -67,11 +69,15 @@ module _ (cs : Candidates) (width : ℕ) (o : Oklab) (c : NormalizedColor) where
 
     pub one-alone : cs .count ≡ 1 → nearestTwoOf cs width o c .second ≡ Nothing
     unfolding nearestTwoOf
-    one-alone one = none (mixable (cs .normalized) a c) (mixError (cs .normalized) a c) short (omega (arith, size, length-take (clampWidth width) (ranked (distances (cs .oklab a) (cs .oklab)) a (cs .count))))
+    one-alone one =
+        none (mixable (cs .normalized) a c) (mixError (cs .normalized) a c) short
+        (omega (arith, size, length-take (clampWidth width) (ranked (distances (cs .oklab a) (cs .oklab)) a (cs .count))))
 
     pub two-or-more : 1 < cs .count → (b : ℕ) × (nearestTwoOf cs width o c .second ≡ At b)
     unfolding nearestTwoOf
-    two-or-more more = some (mixable (cs .normalized) a c) (mixError (cs .normalized) a c) short (omega (arith, size, clamp-low width, length-take (clampWidth width) (ranked (distances (cs .oklab a) (cs .oklab)) a (cs .count))))
+    two-or-more more =
+        some (mixable (cs .normalized) a c) (mixError (cs .normalized) a c) short
+        (omega (arith, size, clamp-low width, length-take (clampWidth width) (ranked (distances (cs .oklab a) (cs .oklab)) a (cs .count))))
 
     module _ (range : (k : ℕ) → k < cs .count → T (allInRange (cs .oklab k))) where
       other : (b : ℕ) → nearestTwoOf cs width o c .second ≡ At b → (b < cs .count) × (b ≡ a → ⊥)
@@ -79,7 +85,8 @@ module _ (cs : Candidates) (width : ℕ) (o : Oklab) (c : NormalizedColor) where
       other b e =
           let d = distances (cs .oklab a) (cs .oklab) in
           let i : In b short = second-in (mixable (cs .normalized) a c) (mixError (cs .normalized) a c) short b e in
-          is-ranked d a (cs .count) (distances-plain (cs .oklab) (cs .count) range (cs .oklab a) (range a (nearest-inside (cs .oklab) (cs .count) o positive))) .sound b (in-take (clampWidth width) (ranked d a (cs .count)) b i)
+          let plain = distances-plain (cs .oklab) (cs .count) range (cs .oklab a) (range a (nearest-inside (cs .oklab) (cs .count) o positive)) in
+          is-ranked d a (cs .count) plain .sound b (in-take (clampWidth width) (ranked d a (cs .count)) b i)
 
       pub second-inside : (b : ℕ) → nearestTwoOf cs width o c .second ≡ At b → b < cs .count
       second-inside b e = other b e .0
@@ -89,7 +96,8 @@ module _ (cs : Candidates) (width : ℕ) (o : Oklab) (c : NormalizedColor) where
       second-other b e = other b e .1
 
 -- ---- what the nearest two are
-module _ (cs : Candidates) (width : ℕ) (o : Oklab) (c : NormalizedColor) (positive : 0 < cs .count) (range : (k : ℕ) → k < cs .count → T (allInRange (cs .oklab k))) where
+module _ (cs : Candidates) (width : ℕ) (o : Oklab) (c : NormalizedColor) (positive : 0 < cs .count)
+    (range : (k : ℕ) → k < cs .count → T (allInRange (cs .oklab k))) where
   -- every distance from an entry is finite, not negative and not -0
   plain : (a : ℕ) → a < cs .count → (k : ℕ) → k < cs .count → Plain (distances (cs .oklab a) (cs .oklab) k)
   plain a i = distances-plain (cs .oklab) (cs .count) range (cs .oklab a) (range a i)
@@ -130,7 +138,8 @@ module _ (cs : Candidates) (width : ℕ) (o : Oklab) (c : NormalizedColor) (posi
           let a : ℕ = t .first in
           let p = mixable (cs .normalized) a c in
           let e = mixError (cs .normalized) a c in
-          let same : ks ≡ x .others = shortlist-only (distances (cs .oklab a) (cs .oklab)) a (cs .count) w (plain a (x .nearest .inside)) ks (x .others) short (x .shortlist) in
+          let same : ks ≡ x .others =
+          shortlist-only (distances (cs .oklab a) (cs .oklab)) a (cs .count) w (plain a (x .nearest .inside)) ks (x .others) short (x .shortlist) in
           second-only p e (x .others) (t .second) s (x .beside) (subst (λ (l : List ℕ). IsSecondIn e (those p l) l s) same is)
 
 -- ---- the same of an answer that is equal to it

@@ -75,7 +75,8 @@ abbrev pub FlatNearest : (reduced normalized : List ℕ) → List Float → Norm
 FlatNearest reduced normalized oklab color = Answers numberOf (listReplies reduced normalized oklab) (nearestAnswer reduced normalized oklab color)
 
 abbrev pub FlatTwo : (reduced normalized : List ℕ) → List Float → NormalizedColor → (width : ℕ) → FoundTwo → Type 0
-FlatTwo reduced normalized oklab color width = Answers numberOfTwo (listReplies reduced normalized oklab) (nearestTwoAnswer reduced normalized oklab color width)
+FlatTwo reduced normalized oklab color width =
+    Answers numberOfTwo (listReplies reduced normalized oklab) (nearestTwoAnswer reduced normalized oklab color width)
 
 abbrev pub FlatBracket : (reduced normalized : List ℕ) → List Float → NormalizedColor → (width : ℕ) → FoundBracket → Type 0
 FlatBracket reduced normalized oklab color width =

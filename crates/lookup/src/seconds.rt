@@ -1,14 +1,13 @@
-// The second colour: of the shortlist's entries the one that mixes best with the nearest.
+// The second colour, of the shortlist's entries the one that mixes best with the nearest: an entry's turn, and the choice
+// when all have had theirs. The loop over the shortlist is where the entries are read: `flat`, and crate `remembered`.
 use super::Best;
 use super::Second;
 use color::NormalizedColor;
-use color::rgba_at;
 use mixing::lerp;
 use mixing::mix_residual;
 ghost use mathlib.Core.Path.{_≡_};
-ghost use Prim.Native.Nat.{ℕ, _+_, _*_, _<_, _≤_};
-ghost use lib.ListN.{length, getD, take};
-ghost use Rattle.color.specs.Color.{normalizedAt};
+ghost use Prim.Native.Nat.{ℕ, _≤_};
+ghost use lib.ListN.{length, take};
 ghost use Rattle.color.specs.declared.NormalizedColor.{NormalizedColor};
 ghost use Rattle.mixing.specs.Lerp.{between};
 ghost use Rattle.lookup.specs.Second.{secondBeside, BestBeside, improved, weighed};
@@ -63,55 +62,4 @@ pub fn second_by(best: Best, positions: &[usize; 16], count: usize) -> Second
         return Second::At(positions[0]);
     }
     Second::Nothing
-}
-
-// Entry k of a list of normalised bytes. No public call: the caller sees to the length.
-pub fn normal_at(normalized: &[u8], k: usize) -> NormalizedColor
-    requires { ⌜ 4 * k + 3 < length (now normalized) ⌝ }
-    ensures { λ r. ⌜ r ≡ normalizedAt (now (normalized .entry)) k ⌝ }
-{
-    NormalizedColor(rgba_at(normalized, k))
-}
-
-// The best of the shortlist's entries beside entry a, if one of them mixes.
-fn best_of(
-    normalized: &[u8],
-    a: usize,
-    positions: &[usize; 16],
-    count: usize,
-    color: NormalizedColor,
-) -> Best
-    requires { ⌜ (4 * a + 3 < length (now normalized)) × (count ≤ 16) × (length (now positions) ≡ 16)
-        × ((i : ℕ) → i < count → 4 * getD (now positions) i 0 + 3 < length (now normalized)) ⌝ }
-    ensures { λ r. ⌜ BestBeside (normalizedAt (now (normalized .entry))) a color (take count (now (positions .entry))) r ⌝ }
-{
-    let c1 = normal_at(normalized, a);
-    let mut best = Best::none();
-    let mut i = 0;
-    while i < count {
-        let k = positions[i];
-        best = weigh(best, k, c1, normal_at(normalized, k), color);
-        i += 1;
-    }
-    best
-}
-
-// Among the shortlist's entries that mix with entry a to the colour, the one with the smallest error, the first of equals;
-// if none does, the shortlist's first. No public call: the caller sees to lengths and positions.
-pub fn second_of(
-    normalized: &[u8],
-    a: usize,
-    positions: &[usize; 16],
-    count: usize,
-    color: NormalizedColor,
-) -> Second
-    requires { ⌜ (4 * a + 3 < length (now normalized)) × (count ≤ 16) × (length (now positions) ≡ 16)
-        × ((i : ℕ) → i < count → 4 * getD (now positions) i 0 + 3 < length (now normalized)) ⌝ }
-    ensures { λ r. ⌜ r ≡ secondBeside (normalizedAt (now (normalized .entry))) a color (take count (now (positions .entry))) ⌝ }
-{
-    second_by(
-        best_of(normalized, a, positions, count, color),
-        positions,
-        count,
-    )
 }

@@ -25,7 +25,8 @@ nearest-position-requires c κs =
 
 returns-2 : tie.Need-returns-2
 returns-2 c =
-    nearest-accepted _ _ _ _ _ (c .before .before .before .list-refusal .ensures) (c .before .before .if1 .left) _ _ (c .before .to-oklab .ensures) (c .nearest-position .ensures)
+    nearest-accepted _ _ _ _ _ (c .before .before .before .list-refusal .ensures) (c .before .before .if1 .left) _ _ (c .before .to-oklab .ensures)
+    (c .nearest-position .ensures)
 
 pub flat-nearest-spec : {M : Type 1} → statement M
 flat-nearest-spec =

@@ -24,7 +24,8 @@ two-of-requires c κs = (
 
 returns-2 : tie.Need-returns-2
 returns-2 c =
-    two-accepted _ _ _ _ _ _ (c .before .before .before .list-refusal .ensures) (c .before .before .if1 .left) _ _ (c .before .to-oklab .ensures) (c .two-of .ensures)
+    two-accepted _ _ _ _ _ _ (c .before .before .before .list-refusal .ensures) (c .before .before .if1 .left) _ _ (c .before .to-oklab .ensures)
+    (c .two-of .ensures)
 
 pub flat-nearest-two-spec : {M : Type 1} → statement M
 flat-nearest-two-spec =

@@ -24,7 +24,8 @@ bracket-of-requires c κs = (
 
 returns-2 : tie.Need-returns-2
 returns-2 c =
-    bracket-accepted _ _ _ _ _ _ (c .before .before .before .list-refusal .ensures) (c .before .before .if1 .left) _ _ (c .before .to-oklab .ensures) (c .bracket-of .ensures)
+    bracket-accepted _ _ _ _ _ _ (c .before .before .before .list-refusal .ensures) (c .before .before .if1 .left) _ _ (c .before .to-oklab .ensures)
+    (c .bracket-of .ensures)
 
 pub flat-ordered-bracket-spec : {M : Type 1} → statement M
 flat-ordered-bracket-spec =

@@ -22,7 +22,8 @@ second : (c : tie.After-second) → c .second .given .0 .0 < c .before .before .
 second c =
     let s = c .before .before .before .before .before .before .before in
     let t = c .before .before .pair-positions in
-    second-entry (list s) (s .args .width) _ (s .args .color) (t .result) (t .ensures .0) (s .pre .1) (s .pre .4 .range) (c .second .given .0 .0) (c .second .given .1)
+    second-entry (list s) (s .args .width) _ (s .args .color) (t .result) (t .ensures .0) (s .pre .1) (s .pre .4 .range) (c .second .given .0 .0)
+    (c .second .given .1)
 
 pair-positions-requires : tie.Need-pair-positions-requires
 pair-positions-requires c κs = search needs
@@ -39,8 +40,11 @@ solid-requires c κs = search needs
 returns : tie.Need-returns
 returns c =
     let s = c .before .before .before .before .before .before .before .before in
-    let t = c .before .before .before .pair-positions in
-    (solid-is (list s) (s .args .width) _ (s .args .color) (t .result) (t .ensures .0) (c .solid .result) (c .before .enum-told .given .1) (c .solid .ensures), t .ensures .1)
+    let t = c .before .before .before .pair-positions in (
+      solid-is (list s) (s .args .width) _ (s .args .color) (t .result) (t .ensures .0) (c .solid .result) (c .before .enum-told .given .1)
+          (c .solid .ensures),
+      t .ensures .1,
+    )
 
 normal-at-requires : tie.Need-normal-at-requires
 normal-at-requires c κs =
@@ -66,8 +70,10 @@ returns-2 c =
     let k = c .before .before .before .before in
     let t = k .before .before .pair-positions in
     let s = k .before .before .before .before .before .before .before in
-    let bracket = pair-is (list s) (s .args .width) _ (s .args .color) (t .result) (t .ensures .0) (c .bracket-with .result) (k .second .given .0 .0) (k .second .given .1)
-    (c .before .before .normal-at .result) (c .before .normal-at2 .result) (c .before .before .normal-at .ensures) (c .before .normal-at2 .ensures) (c .bracket-with .ensures) in
+    let bracket =
+    pair-is (list s) (s .args .width) _ (s .args .color) (t .result) (t .ensures .0) (c .bracket-with .result) (k .second .given .0 .0) (k .second .given .1)
+    (c .before .before .normal-at .result) (c .before .normal-at2 .result) (c .before .before .normal-at .ensures) (c .before .normal-at2 .ensures)
+    (c .bracket-with .ensures) in
     (bracket, t .ensures .1)
 
 pub bracket-positions-spec : {M : Type 1} → statement M

@@ -19,7 +19,8 @@ bracket-at-requires c κs =
     let a = s .args in
     let A = accepted (a .reduced .now) (a .normalized .now) (a .oklab .now) (s .pre .0) in
     let p = c .bracket-positions in
-    let i = bracket-entries (flat (a .reduced .now) (a .normalized .now) (a .oklab .now)) (a .width) (a .o) (a .color) (p .result) (p .ensures) (A .positive) (A .ranged .range) in
+    let i = bracket-entries (flat (a .reduced .now) (a .normalized .now) (a .oklab .now)) (a .width) (a .o) (a .color) (p .result) (p .ensures) (A .positive)
+    (A .ranged .range) in
     (omega (arith, i .0, A .bytes), omega (arith, i .1, A .bytes))
 
 returns : tie.Need-returns

@@ -18,14 +18,16 @@ first : (c : tie.After-two-of) → c .two-of .result .first < length (c .before 
 first c =
     let s = c .before .before .before .before in
     let a = s .args in
-    first-entry (flat (a .reduced .now) (a .normalized .now) (a .oklab .now)) (a .width) (a .o) (a .color) (c .two-of .result) (c .two-of .ensures) (ready s .positive)
+    first-entry (flat (a .reduced .now) (a .normalized .now) (a .oklab .now)) (a .width) (a .o) (a .color) (c .two-of .result) (c .two-of .ensures)
+    (ready s .positive)
 
 second : (c : tie.After-second) → c .second .given .0 .0 < length (c .before .before .before .before .before .before .args .reduced .now) / 4
 second c =
     let s = c .before .before .before .before .before .before in
     let a = s .args in
     let t = c .before .before .two-of in
-    second-entry (flat (a .reduced .now) (a .normalized .now) (a .oklab .now)) (a .width) (a .o) (a .color) (t .result) (t .ensures) (ready s .positive) (ready s .ranged .range)
+    second-entry (flat (a .reduced .now) (a .normalized .now) (a .oklab .now)) (a .width) (a .o) (a .color) (t .result) (t .ensures) (ready s .positive)
+    (ready s .ranged .range)
     (c .second .given .0 .0) (c .second .given .1)
 
 two-of-requires : tie.Need-two-of-requires
@@ -71,8 +73,10 @@ returns-2 c =
     let k = c .before .before .before .before in
     let t = k .before .before in
     let a = t .before .before .before .before .args in
-    pair-is (flat (a .reduced .now) (a .normalized .now) (a .oklab .now)) (a .width) (a .o) (a .color) (t .two-of .result) (t .two-of .ensures) (c .bracket-with .result)
-    (k .second .given .0 .0) (k .second .given .1) (c .before .before .normal-at .result) (c .before .normal-at2 .result) (c .before .before .normal-at .ensures)
+    pair-is (flat (a .reduced .now) (a .normalized .now) (a .oklab .now)) (a .width) (a .o) (a .color) (t .two-of .result) (t .two-of .ensures)
+    (c .bracket-with .result)
+    (k .second .given .0 .0) (k .second .given .1) (c .before .before .normal-at .result) (c .before .normal-at2 .result)
+    (c .before .before .normal-at .ensures)
     (c .before .normal-at2 .ensures) (c .bracket-with .ensures)
 
 pub bracket-positions-spec : {M : Type 1} → statement M

@@ -47,9 +47,19 @@ second-of-requires c κs =
     let w = clampWidth (s .args .width) in
     let plain = distances-plain ls (count s) (A .ranged .range) (ls a) (A .ranged .range a i) in (
       omega (arith, A .bytes, A .same),
-      omega (arith, listed-le d (r .result) w (r .last .1 .1 .1 .1 .0) (r .last .1 .1 .1 .1 .1 .0) (ranked d a (count s)) (r .ensures), clamp-high (s .args .width)),
+      omega (
+        arith,
+        listed-le d (r .result) w (r .last .1 .1 .1 .1 .0) (r .last .1 .1 .1 .1 .1 .0) (ranked d a (count s)) (r .ensures),
+        clamp-high (s .args .width),
+      ),
       r .ensures .room .0,
-      λ k l. omega (arith, A .bytes, A .same, listed-below d a (count s) w (r .result) (r .last .1 .1 .1 .1 .0) (r .last .1 .1 .1 .1 .1 .0) plain (r .ensures) k l),
+      λ k l. omega (
+        arith,
+        A .bytes,
+        A .same,
+        listed-below d a (count s) w (r .result) (r .last .1 .1 .1 .1 .0) (r .last .1 .1 .1 .1 .1 .0) plain (r .ensures)
+            k l,
+      ),
     )
 
 returns : tie.Need-returns

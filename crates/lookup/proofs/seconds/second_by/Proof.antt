@@ -24,7 +24,8 @@ element-copy-out-t7 c = search needs
 returns-2 : tie.Need-returns-2
 returns-2 c = λ n a color h.
     let s = c .before .before .before .before in
-    second-front (mixError n a color) (s .args .best) (passing s n a color) (s .args .positions .now) (s .args .count) h (c .before .before .if1 .left) (c .before .if2 .taken)
+    second-front (mixError n a color) (s .args .best) (passing s n a color) (s .args .positions .now) (s .args .count) h (c .before .before .if1 .left)
+    (c .before .if2 .taken)
     (omega (arith, s .pre .0, s .pre .1))
 
 returns-3 : tie.Need-returns-3

@@ -46,7 +46,8 @@ loop-again : tie.Need-loop-again Inv-loop μ-loop
 loop-again c =
     let s = c .before .before .before .before .before .before .before .before .before in
     let l = c .before .before .before .before .loop in
-    weighing-more _ _ _ _ _ (l .inv) (c .before .before .before .loop-test .taken) (omega (arith, s .pre .2, s .pre .3)) _ (c .before .normal-at2 .ensures) _ (c .weigh .ensures)
+    weighing-more _ _ _ _ _ (l .inv) (c .before .before .before .loop-test .taken) (omega (arith, s .pre .2, s .pre .3)) _ (c .before .normal-at2 .ensures) _
+    (c .weigh .ensures)
 
 returns : tie.Need-returns Inv-loop μ-loop
 returns c = weighing-all _ _ _ _ _ (c .before .loop .inv) (c .loop-test .left)

@@ -1,8 +1,8 @@
--- `seconds::second_of` meets its contract: by the best of the shortlist's entries. Assumes nothing.
+-- `flat::second_of` meets its contract: by the best of the shortlist's entries. Assumes nothing.
 use Rattle.color.specs.Color.{normalizedAt}
 use borrow.Author.Needs.{needs}
-use Rattle.lookup.proofs.seconds.second_of.Statement.{statement}
-use Rattle.lookup.proofs.seconds.second_of.Tie as tie
+use Rattle.lookup.proofs.flat.second_of.Statement.{statement}
+use Rattle.lookup.proofs.flat.second_of.Tie as tie
 
 best-of-requires : tie.Need-best-of-requires
 best-of-requires c κs = search needs

@@ -1,11 +1,11 @@
--- `seconds::best_of` meets its contract. The loop holds the best of the positions passed. Assumes nothing.
+-- `flat::best_of` meets its contract. The loop holds the best of the positions passed. Assumes nothing.
 use Prim.Native.Nat.{_-_}
 use native.Mathlib.Omega.{arith}
 use Rattle.color.specs.Color.{normalizedAt}
 use Rattle.lookup.proofs.SecondLaws.{Weighing, weighing-none, weighing-more, weighing-all}
 use borrow.Author.Needs.{needs}
-use Rattle.lookup.proofs.seconds.best_of.Statement.{statement}
-use Rattle.lookup.proofs.seconds.best_of.Tie as tie
+use Rattle.lookup.proofs.flat.best_of.Statement.{statement}
+use Rattle.lookup.proofs.flat.best_of.Tie as tie
 
 abbrev Inv-loop : tie.InvT-loop
 Inv-loop normalized a positions count color c1 best₀ i₀ best i = Weighing (normalizedAt normalized) a color c1 positions count i best
@@ -44,7 +44,8 @@ loop-again : tie.Need-loop-again Inv-loop μ-loop
 loop-again c =
     let s = c .before .before .before .before .before .before .before .before in
     let l = c .before .before .before .before .loop in
-    weighing-more _ _ _ _ _ (l .inv) (c .before .before .before .loop-test .taken) (omega (arith, s .pre .1, s .pre .2)) _ (c .before .normal-at2 .ensures) _ (c .weigh .ensures)
+    weighing-more _ _ _ _ _ (l .inv) (c .before .before .before .loop-test .taken) (omega (arith, s .pre .1, s .pre .2)) _ (c .before .normal-at2 .ensures) _
+    (c .weigh .ensures)
 
 returns : tie.Need-returns Inv-loop μ-loop
 returns c = weighing-all _ _ _ _ _ (c .before .loop .inv) (c .loop-test .left)
