@@ -34,10 +34,10 @@ use Rattle.drawing.specs.declared.ColorZero.{ColorZero}
 use Rattle.drawing.specs.declared.Ditherer.{Ditherer}
 use Rattle.drawing.specs.Drawing.{nearestColor, orderedColor, colorAt, drawn}
 use Rattle.drawing.specs.Lent.{isSkipped, Lent, drawingOf, Ready}
-use Rattle.remembered.specs.Table.{nearestAlone, nearestBoth}
-use Rattle.remembered.specs.Shorts.{shortOf}
-use Rattle.remembered.proofs.TableLaws.{kept-none}
-use Rattle.remembered.proofs.ShortLaws.{shorts-none}
+use Rattle.remembered.specs.Table.{memorySize, nearestAlone, nearestBoth}
+use Rattle.remembered.specs.Shorts.{shortlistAt}
+use Rattle.remembered.proofs.TableLaws.{table-none}
+use Rattle.remembered.proofs.ShortLaws.{rows-none}
 use Rattle.drawing.specs.Turns.{Choosable, Inside, Diffused, RemembersBy, Remembers}
 use Rattle.drawing.proofs.DrawnLaws.{drawn-plain}
 
@@ -55,12 +55,12 @@ module _ (t : Ditherer) (cs : Candidates) (memory : List ℕ) where
   remembers-of b e = subst (λ (x : Bool). RemembersBy x cs (t .«bracket_width») memory) (sym e)
 
 -- nothing is remembered yet
-pub remembers-none : (t : Ditherer) (cs : Candidates) → Remembers t cs (replicate 897 0)
+pub remembers-none : (t : Ditherer) (cs : Candidates) → Remembers t cs (replicate memorySize 0)
 remembers-none t cs = go (isOrdered (t .kind))
   where
-    go : (b : Bool) → RemembersBy b cs (t .«bracket_width») (replicate 897 0)
-    go true = record { pairs = kept-none (nearestBoth cs (t .«bracket_width»)); shorts = shorts-none (shortOf (cs .oklab) (cs .count) (t .«bracket_width»)) }
-    go false = kept-none (nearestAlone (cs .oklab) (cs .count))
+    go : (b : Bool) → RemembersBy b cs (t .«bracket_width») (replicate memorySize 0)
+    go true = record { pairs = table-none (nearestBoth cs (t .«bracket_width»)); shorts = rows-none (shortlistAt (cs .oklab) (cs .count) (t .«bracket_width»)) }
+    go false = table-none (nearestAlone (cs .oklab) (cs .count))
 
 module _ (cs : Candidates) (width : ℕ) (c : NormalizedColor) (at : BracketAt) (made : at ≡ bracketAtOf cs width (toOklab c) c) where
   -- the positions are entries of a list that holds the candidates

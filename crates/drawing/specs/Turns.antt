@@ -14,8 +14,8 @@ use Rattle.color.specs.Tables.{normalizeColor}
 use Rattle.conversion.specs.Linear.{values}
 use Rattle.patterns.specs.Kinds.{isOrdered, kernelOf}
 use Rattle.shortlist.specs.Candidates.{Candidates, RangedList}
-use Rattle.remembered.specs.Table.{nearestAlone, Kept}
-use Rattle.remembered.specs.Shorts.{KeptBoth}
+use Rattle.remembered.specs.Table.{nearestAlone, TableOf}
+use Rattle.remembered.specs.Shorts.{TableAndRows}
 use Rattle.diffusion.specs.Biased.{biasedColor}
 use Rattle.diffusion.specs.Scatter.{sends, scatter}
 use Rattle.diffusion.specs.Sends.{residualsOf}
@@ -54,8 +54,8 @@ cellsBefore d i = map sixteenths (scatter (kernelOf (d .kind)) (pictureOf d (dra
 
 -- what is remembered where no error is diffused: for an ordered kind pairs and shortlists, for Off the nearest
 abbrev pub RemembersBy : Bool → Candidates → ℕ → List ℕ → Type 0
-RemembersBy true cs width memory = KeptBoth cs width memory
-RemembersBy false cs width memory = Kept (nearestAlone (cs .oklab) (cs .count)) memory
+RemembersBy true cs width memory = TableAndRows cs width memory
+RemembersBy false cs width memory = TableOf (nearestAlone (cs .oklab) (cs .count)) memory
 
 abbrev pub Remembers : Ditherer → Candidates → List ℕ → Type 0
 Remembers t cs memory = RemembersBy (isOrdered (t .kind)) cs (t .«bracket_width») memory

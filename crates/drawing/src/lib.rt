@@ -3,6 +3,7 @@
 use color::NormalizedColor;
 use color::ReducedColor;
 use lists::zero_floats;
+use remembered::MEMORY;
 ghost use mathlib.Core.Path.{_≡_};
 ghost use mathlib.Core.Bool.{true, false};
 ghost use mathlib.Core.List.{List};
@@ -13,8 +14,8 @@ ghost use Rattle.floats.specs.Cells.{Cells};
 ghost use Rattle.patterns.specs.Kinds.{isOrdered, isDiffusion};
 ghost use Rattle.color.specs.Oklab.{oklabAt};
 ghost use Rattle.shortlist.specs.Candidates.{scaled};
-ghost use Rattle.remembered.specs.Table.{nearestAlone, Kept};
-ghost use Rattle.remembered.specs.Shorts.{KeptBoth};
+ghost use Rattle.remembered.specs.Table.{nearestAlone, TableOf};
+ghost use Rattle.remembered.specs.Shorts.{TableAndRows};
 ghost use Rattle.drawing.specs.Drawing.{nearestColor, orderedColor, colorAt, drawn};
 ghost use Rattle.drawing.specs.Lent.{isZero, isSkipped, lent, drawingOf, reducedBytes, cellsAfter, Ready};
 ghost use Rattle.drawing.specs.Turns.{Linear, Choosable, Inside, Diffused, cellsBefore, Remembers};
@@ -62,11 +63,11 @@ fn nearest_color(
     oklab: &[f32],
     count: usize,
     color: NormalizedColor,
-    memory: &mut [u64; 897],
+    memory: &mut [u64; MEMORY],
 ) -> ReducedColor
-    requires { ⌜ Linear (now linear) × Choosable (now colors) (now scale) (now oklab) count × Kept (nearestAlone (oklabAt (now oklab)) count) (now memory) ⌝ }
+    requires { ⌜ Linear (now linear) × Choosable (now colors) (now scale) (now oklab) count × TableOf (nearestAlone (oklabAt (now oklab)) count) (now memory) ⌝ }
     ensures { λ c. ⌜ (c ≡ nearestColor (scaled (now (colors .entry)) (now (scale .entry)) (now (oklab .entry)) count) color)
-        × Kept (nearestAlone (oklabAt (now (oklab .entry))) count) (now (memory .exit)) ⌝ }
+        × TableOf (nearestAlone (oklabAt (now (oklab .entry))) count) (now (memory .exit)) ⌝ }
 {
     let k = remembered::nearest_position(linear, oklab, count, color, memory);
     ReducedColor(color::rgba_at(colors, k))
@@ -116,13 +117,13 @@ impl Ditherer {
         count: usize,
         i: usize,
         color: NormalizedColor,
-        memory: &mut [u64; 897],
+        memory: &mut [u64; MEMORY],
     ) -> ReducedColor
         requires { ⌜ Linear (now linear) × Choosable (now colors) (now scale) (now oklab) count × Inside self i × (isOrdered (self .kind) ≡ true)
-            × KeptBoth (scaled (now colors) (now scale) (now oklab) count) (self .«bracket_width») (now memory) ⌝ }
+            × TableAndRows (scaled (now colors) (now scale) (now oklab) count) (self .«bracket_width») (now memory) ⌝ }
         ensures { λ c. ⌜ (c ≡ orderedColor (scaled (now (colors .entry)) (now (scale .entry)) (now (oklab .entry)) count) (self .kind) (self .«bracket_width»)
             (self .«origin_x» + i % self .width) (self .«origin_y» + i / self .width) color)
-            × KeptBoth (scaled (now (colors .entry)) (now (scale .entry)) (now (oklab .entry)) count) (self .«bracket_width») (now (memory .exit)) ⌝ }
+            × TableAndRows (scaled (now (colors .entry)) (now (scale .entry)) (now (oklab .entry)) count) (self .«bracket_width») (now (memory .exit)) ⌝ }
     {
         let width = self.bracket_width;
         let at = remembered::bracket_positions(
@@ -152,7 +153,7 @@ impl Ditherer {
         count: usize,
         i: usize,
         color: NormalizedColor,
-        memory: &mut [u64; 897],
+        memory: &mut [u64; MEMORY],
     ) -> ReducedColor
         requires { ⌜ Linear (now linear) × Choosable (now colors) (now scale) (now oklab) count × Inside self i
             × Remembers self (scaled (now colors) (now scale) (now oklab) count) (now memory) ⌝ }
@@ -177,15 +178,15 @@ impl Ditherer {
         count: usize,
         i: usize,
         color: NormalizedColor,
-        memory: &mut [u64; 897],
+        memory: &mut [u64; MEMORY],
         cells: &mut [f32],
     ) -> ReducedColor
         requires { ⌜ Linear (now linear) × Choosable (now colors) (now scale) (now oklab) count × Inside self i × (isDiffusion (self .kind) ≡ true)
             × (length (now cells) ≡ 3 * (self .width * self .height)) × ((zs : List ℤ) × Cells 4080 (now cells) zs)
-            × Kept (nearestAlone (oklabAt (now oklab)) count) (now memory) ⌝ }
+            × TableOf (nearestAlone (oklabAt (now oklab)) count) (now memory) ⌝ }
         ensures { λ c. ⌜ ((zs : List ℤ) → Cells 4080 (now (cells .entry)) zs
             → Diffused self (scaled (now (colors .entry)) (now (scale .entry)) (now (oklab .entry)) count) (now (scale .entry)) zs i color c (now (cells .exit)))
-            × Kept (nearestAlone (oklabAt (now (oklab .entry))) count) (now (memory .exit)) ⌝ }
+            × TableOf (nearestAlone (oklabAt (now (oklab .entry))) count) (now (memory .exit)) ⌝ }
     {
         let biased = diffusion::biased_color(cells, i, color);
         let chosen = nearest_color(linear, colors, scale, oklab, count, biased, memory);
@@ -219,7 +220,7 @@ impl Ditherer {
         oklab: &[f32],
         count: usize,
         i: usize,
-        memory: &mut [u64; 897],
+        memory: &mut [u64; MEMORY],
     ) -> ReducedColor
         requires { ⌜ Linear (now linear) × Ready self zero (lent (now reduction) (now scale) (now pixels) (now colors) (now oklab) count)
             × (isDiffusion (self .kind) ≡ false) × (i < self .width * self .height)
@@ -248,16 +249,16 @@ impl Ditherer {
         oklab: &[f32],
         count: usize,
         i: usize,
-        memory: &mut [u64; 897],
+        memory: &mut [u64; MEMORY],
         cells: &mut [f32],
     ) -> ReducedColor
         requires { ⌜ Linear (now linear) × Ready self zero (lent (now reduction) (now scale) (now pixels) (now colors) (now oklab) count)
             × (isDiffusion (self .kind) ≡ true) × (i < self .width * self .height)
             × (now cells ≡ cellsBefore (drawingOf self zero (lent (now reduction) (now scale) (now pixels) (now colors) (now oklab) count)) i)
-            × Kept (nearestAlone (oklabAt (now oklab)) count) (now memory) ⌝ }
+            × TableOf (nearestAlone (oklabAt (now oklab)) count) (now memory) ⌝ }
         ensures { λ c. ⌜ (c ≡ drawn (drawingOf self zero (lent (now (reduction .entry)) (now (scale .entry)) (now (pixels .entry)) (now (colors .entry)) (now (oklab .entry)) count)) i)
             × (now (cells .exit) ≡ cellsBefore (drawingOf self zero (lent (now (reduction .entry)) (now (scale .entry)) (now (pixels .entry)) (now (colors .entry)) (now (oklab .entry)) count)) (i + 1))
-            × Kept (nearestAlone (oklabAt (now (oklab .entry))) count) (now (memory .exit)) ⌝ }
+            × TableOf (nearestAlone (oklabAt (now (oklab .entry))) count) (now (memory .exit)) ⌝ }
     {
         let c = picture::pixel_at(reduction, pixels, i);
         if is_skipped(zero, c) {
@@ -280,7 +281,7 @@ impl Ditherer {
         colors: &[u8],
         oklab: &[f32],
         count: usize,
-        memory: &mut [u64; 897],
+        memory: &mut [u64; MEMORY],
         out: &mut [u8],
     )
         requires { ⌜ Linear (now linear) × Ready self zero (lent (now reduction) (now scale) (now pixels) (now colors) (now oklab) count)
@@ -319,13 +320,13 @@ impl Ditherer {
         colors: &[u8],
         oklab: &[f32],
         count: usize,
-        memory: &mut [u64; 897],
+        memory: &mut [u64; MEMORY],
         out: &mut [u8],
         cells: &mut [f32],
     )
         requires { ⌜ Linear (now linear) × Ready self zero (lent (now reduction) (now scale) (now pixels) (now colors) (now oklab) count)
             × (isDiffusion (self .kind) ≡ true) × (length (now out) ≡ 4 * (self .width * self .height)) × (length (now cells) ≡ 3 * (self .width * self .height))
-            × Kept (nearestAlone (oklabAt (now oklab)) count) (now memory) ⌝ }
+            × TableOf (nearestAlone (oklabAt (now oklab)) count) (now memory) ⌝ }
         ensures { λ _. ⌜ (now (out .exit) ≡ reducedBytes (drawingOf self zero (lent (now (reduction .entry)) (now (scale .entry)) (now (pixels .entry)) (now (colors .entry)) (now (oklab .entry)) count)))
             × (now (cells .exit) ≡ cellsBefore (drawingOf self zero (lent (now (reduction .entry)) (now (scale .entry)) (now (pixels .entry)) (now (colors .entry)) (now (oklab .entry)) count)) (self .width * self .height)) ⌝ }
     {
@@ -371,7 +372,7 @@ impl Ditherer {
             × (now (cells .exit) ≡ cellsAfter (drawingOf self zero (lent (now (reduction .entry)) (now (scale .entry)) (now (pixels .entry)) (now (colors .entry)) (now (oklab .entry)) count)) (now (cells .entry))) ⌝ }
     {
         let linear = conversion::linear::linear_table();
-        let mut memory = [0u64; 897];
+        let mut memory = [0u64; MEMORY];
         if patterns::is_diffusion(self.kind) {
             self.draw_diffused(
                 zero,

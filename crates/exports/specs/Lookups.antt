@@ -2,21 +2,17 @@
 -- otherwise what was there; the number is the one that the answer's own definition gives (`numberOf` and the three beside it). Each contract says
 -- that the result is the definition that has the call's name. Definitions only.
 -- Written from document 01, "Bounds and replies": "The lowest number that applies is given", "A refusal returns no colour", "all unchanged".
-use Prim.Native.Nat.{ℕ, _/_}
+use Prim.Native.Nat.{ℕ}
 use mathlib.Core.List.{List, [], _∷_}
 use mathlib.Core.Bool.{Bool, not, _&&_}
-use lib.Dec.{eqb, ltb}
+use lib.Dec.{eqb}
 use lib.ListN.{length}
 use lib.Ieee.{Float}
-use Rattle.replies.specs.Replies.{Reply, _if_, firstReply, after}
+use Rattle.replies.specs.Replies.{Reply, _if_, firstReply}
 use Rattle.color.specs.Color.{reducedAt, bytesOf}
-use Rattle.conversion.specs.Oklab.{toOklab}
-use Rattle.patterns.specs.Kinds.{isOrdered}
-use Rattle.patterns.specs.Thresholds.{thresholdAt}
-use Rattle.shortlist.specs.Candidates.{flat}
-use Rattle.lookup.specs.Lists.{lengthsFit, countFits, firstOutside}
-use Rattle.lookup.specs.Bracket.{bracketOf, pickAt}
-use Rattle.lookup.specs.Answers.{nearestAnswer, nearestTwoAnswer, numberOf, numberOfTwo, numberOfBracket, numberOfPicked}
+use Rattle.patterns.specs.Kinds.{isKind, isOrdered}
+use Rattle.lookup.specs.Lists.{listReplies}
+use Rattle.lookup.specs.Answers.{nearestAnswer, nearestTwoAnswer, bracketAnswer, pickAnswer, numberOf, numberOfTwo, numberOfBracket, numberOfPicked}
 use Rattle.lookup.specs.declared.Found.{Found}
 use Rattle.lookup.specs.declared.Found.the-variants as found
 use Rattle.lookup.specs.declared.Two.{Two}
@@ -37,7 +33,8 @@ foundLeft was (found.Refused n) = (numberOf (found.Refused n), was)
 
 -- of a colour of three bytes; alpha plays no part
 abbrev pub badgeNearest : (reduced normalized : List ℕ) → List Float → (r g b was : ℕ) → ℕ × ℕ
-badgeNearest reduced normalized oklab r g b was = foundLeft was (nearestAnswer reduced normalized oklab (opaqueRgb r g b))
+badgeNearest reduced normalized oklab r g b was =
+    foundLeft was (nearestAnswer reduced normalized oklab (opaqueRgb r g b) (firstReply (listReplies reduced normalized oklab)))
 
 -- ---- `badge_nearest_two`: the number, and the positions of the first and of the second
 -- a second's position; that of the first where there is no second
@@ -46,56 +43,52 @@ secondOr (second.At k) first = k
 secondOr second.Nothing first = first
 
 -- the position of the second of two, or of the first
-abbrev pub secondOf : Two → ℕ
-secondOf t = secondOr (t .second) (t .first)
+abbrev pub secondPosition : Two → ℕ
+secondPosition t = secondOr (t .second) (t .first)
 
 abbrev pub twoLeft : (first second : ℕ) → FoundTwo → ℕ × ℕ × ℕ
-twoLeft first second (two.At t) = (numberOfTwo (two.At t), t .first, secondOf t)
+twoLeft first second (two.At t) = (numberOfTwo (two.At t), t .first, secondPosition t)
 twoLeft first second (two.Refused n) = (numberOfTwo (two.Refused n), first, second)
 
 abbrev pub badgeNearestTwo : (reduced normalized : List ℕ) → List Float → (r g b width first second : ℕ) → ℕ × ℕ × ℕ
-badgeNearestTwo reduced normalized oklab r g b width first second = twoLeft first second (nearestTwoAnswer reduced normalized oklab (opaqueRgb r g b) width)
+badgeNearestTwo reduced normalized oklab r g b width first second =
+    twoLeft first second (nearestTwoAnswer reduced normalized oklab (opaqueRgb r g b) width (firstReply (listReplies reduced normalized oklab)))
 
 -- ---- `badge_ordered_bracket`: the number, the bytes of dark and of light, and the share of light
 -- a colour is four bytes
 abbrev pub isFour : List ℕ → Bool
 isFour bytes = eqb (length bytes) 4
 
--- the numbers, and when each applies: the lengths of the lists and those of dark and light are refused alike
-abbrev pub bracketReplies : List ℕ → List ℕ → List Float → List ℕ → List ℕ → List Reply
-bracketReplies reduced normalized oklab dark light =
-    (3 if not (lengthsFit (length reduced) (length normalized) (length oklab) && (isFour dark && isFour light)))
-    ∷ (4 if not (countFits (length reduced / 4)))
-    ∷ (6 if ltb (firstOutside oklab) (length oklab))
-    ∷ []
+-- the numbers, and when each applies: a wrong length of dark or light is refused as those of the lists are
+abbrev pub badgeBracketReplies : (reduced normalized : List ℕ) → List Float → (dark light : List ℕ) → List Reply
+badgeBracketReplies reduced normalized oklab dark light = (3 if not (isFour dark && isFour light)) ∷ listReplies reduced normalized oklab
 
 -- what is answered for a colour of three bytes and rooms for dark and light
-unfoldable pub bracketRgb : List ℕ → List ℕ → List Float → ℕ → ℕ → ℕ → ℕ → List ℕ → List ℕ → FoundBracket
+unfoldable pub bracketRgb : (reduced normalized : List ℕ) → List Float → (r g b width : ℕ) → (dark light : List ℕ) → FoundBracket
 bracketRgb reduced normalized oklab r g b width dark light =
-    let n = firstReply (bracketReplies reduced normalized oklab dark light) in
-    after n (bracket.Of (bracketOf (flat reduced normalized oklab) width (toOklab (opaqueRgb r g b)) (opaqueRgb r g b))) (bracket.Refused n)
+    bracketAnswer reduced normalized oklab (opaqueRgb r g b) width (firstReply (badgeBracketReplies reduced normalized oklab dark light))
 
 abbrev pub bracketLeft : (dark light : List ℕ) → Float → FoundBracket → ℕ × List ℕ × List ℕ × Float
 bracketLeft dark light ratio (bracket.Of b) = (numberOfBracket (bracket.Of b), bytesOf (b .dark .0), bytesOf (b .light .0), b .ratio)
 bracketLeft dark light ratio (bracket.Refused n) = (numberOfBracket (bracket.Refused n), dark, light, ratio)
 
 abbrev pub badgeOrderedBracket : (reduced normalized : List ℕ) → List Float → (r g b width : ℕ) → (dark light : List ℕ) → Float → ℕ × List ℕ × List ℕ × Float
-badgeOrderedBracket reduced normalized oklab r g b width dark light ratio = bracketLeft dark light ratio (bracketRgb reduced normalized oklab r g b width dark light)
+badgeOrderedBracket reduced normalized oklab r g b width dark light ratio =
+    bracketLeft dark light ratio (bracketRgb reduced normalized oklab r g b width dark light)
 
 -- ---- `badge_pick`: the number, and the bytes of the colour picked
--- the numbers, and when each applies
-abbrev pub pickReplies : List ℕ → List ℕ → ℕ → List ℕ → List Reply
-pickReplies dark light kind chosen =
-    (1 if ltb 10 kind)
+-- the numbers, and when each applies: those of `pick`, and 3 for a wrong length of dark, light or chosen
+abbrev pub badgePickReplies : (dark light : List ℕ) → ℕ → (chosen : List ℕ) → List Reply
+badgePickReplies dark light kind chosen =
+    (1 if not (isKind kind))
     ∷ (3 if not (isFour dark && (isFour light && isFour chosen)))
     ∷ (9 if not (isOrdered kind))
     ∷ []
 
 -- what is answered for dark and light as bytes, and a room for the chosen colour
-unfoldable pub pickRooms : List ℕ → List ℕ → Float → ℕ → ℕ → ℕ → List ℕ → Picked
+unfoldable pub pickRooms : (dark light : List ℕ) → Float → (kind x y : ℕ) → (chosen : List ℕ) → Picked
 pickRooms dark light ratio kind x y chosen =
-    let n = firstReply (pickReplies dark light kind chosen) in
-    after n (picked.Color (pickAt (record { dark = reducedAt dark 0; light = reducedAt light 0; ratio = ratio }) (thresholdAt kind x y))) (picked.Refused n)
+    pickAnswer (record { dark = reducedAt dark 0; light = reducedAt light 0; ratio = ratio }) kind x y (firstReply (badgePickReplies dark light kind chosen))
 
 abbrev pub pickedLeft : List ℕ → Picked → ℕ × List ℕ
 pickedLeft was (picked.Color c) = (numberOfPicked (picked.Color c), bytesOf (c .0))

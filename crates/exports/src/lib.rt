@@ -27,7 +27,7 @@ ghost use Rattle.color.specs.Color.{reducedAt, bytesOf};
 ghost use Rattle.dither.specs.Mode as mode;
 ghost use Rattle.quantize.specs.Quantize.{order};
 ghost use Rattle.exports.specs.Answers.{badgeToOklab, badgeOklabSqdist, badgeOrderedThreshold, badgeBracketWidth, badgeLerp};
-ghost use Rattle.exports.specs.Lookups.{badgeNearest, secondOf, badgeNearestTwo, badgeOrderedBracket, badgePick};
+ghost use Rattle.exports.specs.Lookups.{badgeNearest, secondPosition, badgeNearestTwo, badgeOrderedBracket, badgePick};
 ghost use Rattle.exports.specs.Pictures.{lentTo, badgeCandidateColorsIn, badgeQuantizePixels, zeroOf, settingsOf, badgeDitherToMode};
 
 // The Oklab colour of a colour.
@@ -157,7 +157,7 @@ pub extern "C" fn badge_nearest(
 
 // The position of the second, and that of the first where there is none.
 fn second_of(two: Two) -> usize
-    ensures { λ k. ⌜ k ≡ secondOf two ⌝ }
+    ensures { λ k. ⌜ k ≡ secondPosition two ⌝ }
 {
     let second = two.second;
     match second {

@@ -1,86 +1,225 @@
--- The answers of the flat calls: what each is by the number of the list; that number is the answer's number, and the lowest that applies; and an
--- accepted list's answer is the first of the least distances, from the colour as it is converted. Assumes nothing.
+-- The answers of the flat calls and of `pick`: what has the promise, from the number found and what the case holds; an answer that holds a result is
+-- that of an accepted list; its number is the lowest that applies; the position answered is the first of the least distances (`flat-least`), and the
+-- two answered are what document 01 says of them (`flat-second`), which no other two are (`flat-second-only`). Assumes nothing.
 use mathlib.Core.Path.{_≡_, refl, sym, ap, _∙_, subst}
+use mathlib.Core.Bool.{Bool, true, false, cond, not}
 use mathlib.Core.List.{List}
-use Prim.Native.Nat.{ℕ, zero, suc, _/_, _<_}
+use Prim.Native.Nat.{ℕ, zero, suc, _+_, _*_, _/_, _<_}
+use native.Mathlib.Omega.{arith}
+use borrow.Author.Tests.{not-false}
 use lib.Dec.{T}
-use lib.ListN.{length}
+use lib.ListN.{length, getD}
 use lib.Ieee.{Float, lt}
 use Rattle.lists.specs.Least.{Least}
-use Rattle.replies.specs.Replies.{Lowest, after}
-use Rattle.replies.proofs.ReplyLaws.{after-accepted, after-refused}
+use Rattle.lists.proofs.Bools.{holds}
+use Rattle.replies.specs.Replies.{Reply, firstReply, risingFrom, Lowest}
+use Rattle.replies.specs.Answers.{Answers}
+use Rattle.replies.proofs.AnswerLaws.{answered, answers}
+use Rattle.replies.proofs.ReplyLaws.{reply-none}
 use Rattle.replies.proofs.LowestLaws.{lowest-is}
 use Rattle.color.specs.declared.NormalizedColor.{NormalizedColor}
 use Rattle.color.specs.declared.Oklab.{Oklab}
+use Rattle.color.specs.declared.ReducedColor.{ReducedColor}
+use Rattle.color.specs.Color.{rgbaAt}
 use Rattle.color.specs.Oklab.{allInRange, oklabAt}
 use Rattle.color.proofs.Distances.{range-all-in}
 use Rattle.conversion.specs.Oklab.{toOklab}
 use Rattle.conversion.proofs.OklabLaws.{ranged}
+use Rattle.mixing.specs.Lerp.{Bytes}
+use Rattle.patterns.specs.declared.Thresholded.{Thresholded}
+use Rattle.patterns.specs.declared.Thresholded.the-variants as thresholded
+use Rattle.patterns.specs.Kinds.{isKind, isOrdered}
+use Rattle.patterns.specs.Thresholds.{thresholdAt, thresholdOf}
+use Rattle.patterns.specs.Thresholds as patterns
+use Rattle.patterns.proofs.Numbers.{kind-is, ordered-is}
+use Rattle.patterns.proofs.Thresholds as thresholds
 use Rattle.shortlist.specs.Candidates.{flat}
 use Rattle.shortlist.specs.Nearest.{distances, nearestIn, nearestOf}
 use Rattle.shortlist.proofs.NearestLaws.{nearest-least}
-use Rattle.lookup.specs.Second.{nearestTwoOf}
-use Rattle.lookup.specs.Bracket.{bracketOf}
+use Rattle.lookup.specs.Second.{nearestTwoOf, NearestTwo}
+use Rattle.lookup.specs.Bracket.{bracketOf, pickAt}
 use Rattle.lookup.specs.Lists.{listReplies, listNumber}
-use Rattle.lookup.specs.Answers.{nearestAnswer, nearestTwoAnswer, bracketAnswer, numberOf, numberOfTwo, numberOfBracket}
+use Rattle.lookup.specs.Answers.{numberOf, numberOfTwo, numberOfBracket, numberOfPicked, pickReplies}
+use Rattle.lookup.specs.Answers.{nearestAnswer, nearestTwoAnswer, bracketAnswer, pickAnswer, FlatNearest, FlatTwo, FlatBracket, PickedAt}
 use Rattle.lookup.specs.declared.Two.{Two}
+use Rattle.lookup.specs.declared.Bracket.{Bracket}
+use Rattle.lookup.specs.declared.Found.{Found}
 use Rattle.lookup.specs.declared.Found.the-variants as found
+use Rattle.lookup.specs.declared.FoundTwo.{FoundTwo}
 use Rattle.lookup.specs.declared.FoundTwo.the-variants as two
+use Rattle.lookup.specs.declared.FoundBracket.{FoundBracket}
 use Rattle.lookup.specs.declared.FoundBracket.the-variants as bracket
+use Rattle.lookup.specs.declared.Picked.{Picked}
+use Rattle.lookup.specs.declared.Picked.the-variants as picked
 use Rattle.lookup.proofs.ListLaws.{accepted}
+use Rattle.lookup.proofs.TwoLaws.{nearest-two-is, nearest-two-only}
 
--- ---- any answer by its number
-module _ {A : Type 0} (refusal : ℕ → A) where
-  pub refused : (n r : ℕ) (result : A) → r ≡ n → (r ≡ 0 → ⊥) → refusal r ≡ after n result (refusal n)
-  refused n r result e h = ap refusal e ∙ after-refused n result (refusal n) (λ z. h (e ∙ z))
+-- ---- any answer by its number: with 0 a result, else the refusal with the number
+module _ {A : Type 0} (number : A → ℕ) (replies : List Reply) (answer refusal : ℕ → A) (accepting : number (answer 0) ≡ 0)
+    (refusing : (n : ℕ) → answer (suc n) ≡ refusal (suc n)) (own : (n : ℕ) → number (refusal n) ≡ n) (n : ℕ) (e : n ≡ firstReply replies) where
+  own-number : (m : ℕ) → number (answer m) ≡ m
+  own-number zero = accepting
+  own-number (suc m) = ap number (refusing m) ∙ own (suc m)
 
-  pub granted : (n r : ℕ) (given result : A) → r ≡ n → r ≡ 0 → given ≡ result → given ≡ after n result (refusal n)
-  granted n r given result e z g = g ∙ after-accepted n result (refusal n) (sym e ∙ z)
+  pub refused : (n ≡ 0 → ⊥) → Answers number replies answer (refusal n)
+  refused h = answers number replies answer own-number (go n h ∙ ap answer e)
+    where
+      go : (m : ℕ) → (m ≡ 0 → ⊥) → refusal m ≡ answer m
+      go zero h = absurd (h refl)
+      go (suc m) h = sym (refusing m)
 
-  pub numbered : (number : A → ℕ) (n : ℕ) (result : A) → number result ≡ 0 → ((m : ℕ) → number (refusal m) ≡ m) → number (after n result (refusal n)) ≡ n
-  numbered number zero result e h = e
-  numbered number (suc n) result e h = h (suc n)
+  pub granted : n ≡ 0 → (r : A) → r ≡ answer 0 → Answers number replies answer r
+  granted z r g = answers number replies answer own-number (g ∙ ap answer (sym z ∙ e))
+
+-- the number of an answer is the lowest that applies, where the replies rise
+lowest-number : {A : Type 0} {number : A → ℕ} {replies : List Reply} {answer : ℕ → A} {r : A} → Answers number replies answer r → T (risingFrom 0 replies)
+    → Lowest replies (number r)
+lowest-number {replies = replies} a h = subst (Lowest replies) (sym (a .number)) (lowest-is replies h)
 
 -- what a colour is converted to is from -2 to 2
 pub in-range : (color : NormalizedColor) (o : Oklab) → o ≡ toOklab color → color .0 .r < 256 → color .0 .g < 256 → color .0 .b < 256 → T (allInRange o)
 in-range color o e R G B = subst (λ (p : Oklab). T (allInRange p)) (sym e) (range-all-in (toOklab color) (ranged color R G B))
 
+-- ---- the lookups over flat lists
 module _ (reduced normalized : List ℕ) (oklab : List Float) where
-  -- the number of a list is the lowest that applies
-  pub number-is : Lowest (listReplies reduced normalized oklab) (listNumber reduced normalized oklab)
-  unfolding listNumber
-  number-is = lowest-is (listReplies reduced normalized oklab) tt
-
   module _ (color : NormalizedColor) where
-    pub nearest-number : numberOf (nearestAnswer reduced normalized oklab color) ≡ listNumber reduced normalized oklab
-    unfolding nearestAnswer
-    nearest-number = numbered found.Refused numberOf (listNumber reduced normalized oklab) (found.At (nearestOf (flat reduced normalized oklab) (toOklab color))) refl (λ m. refl)
+    -- what `flat_nearest` answers, from the number that `list_refusal` found
+    module _ (n : ℕ) (e : n ≡ listNumber reduced normalized oklab) where
+      pub nearest-refused : (n ≡ 0 → ⊥) → FlatNearest reduced normalized oklab color (found.Refused n)
+      unfolding listNumber
+      nearest-refused = refused numberOf _ (nearestAnswer reduced normalized oklab color) found.Refused refl (λ m. refl) (λ m. refl) n e
 
-    -- no entry is nearer, and every earlier entry is farther
-    pub flat-least : listNumber reduced normalized oklab ≡ 0 → color .0 .r < 256 → color .0 .g < 256 → color .0 .b < 256
-        → Least lt (distances (toOklab color) (oklabAt oklab)) (length reduced / 4) (nearestOf (flat reduced normalized oklab) (toOklab color))
-    flat-least e R G B = let A = accepted reduced normalized oklab e in nearest-least (flat reduced normalized oklab) (toOklab color) (A .positive) (A .ranged .range) (in-range color (toOklab color) refl R G B)
-
-    module _ (width : ℕ) where
-      pub nearest-two-number : numberOfTwo (nearestTwoAnswer reduced normalized oklab color width) ≡ listNumber reduced normalized oklab
-      unfolding nearestTwoAnswer
-      nearest-two-number = numbered two.Refused numberOfTwo (listNumber reduced normalized oklab) (two.At (nearestTwoOf (flat reduced normalized oklab) width (toOklab color) color)) refl (λ m. refl)
-
-      pub bracket-number : numberOfBracket (bracketAnswer reduced normalized oklab color width) ≡ listNumber reduced normalized oklab
-      unfolding bracketAnswer
-      bracket-number = numbered bracket.Refused numberOfBracket (listNumber reduced normalized oklab) (bracket.Of (bracketOf (flat reduced normalized oklab) width (toOklab color) color)) refl (λ m. refl)
-
-    -- ---- what is answered of an accepted list
-    module _ (r : ℕ) (e : r ≡ listNumber reduced normalized oklab) where
-      pub nearest-accepted : r ≡ 0 → (o : Oklab) (k : ℕ) → o ≡ toOklab color → k ≡ nearestIn (oklabAt oklab) (length reduced / 4) o → found.At k ≡ nearestAnswer reduced normalized oklab color
-      unfolding nearestAnswer
+      pub nearest-accepted : n ≡ 0 → (o : Oklab) (k : ℕ) → o ≡ toOklab color → k ≡ nearestIn (oklabAt oklab) (length reduced / 4) o
+          → FlatNearest reduced normalized oklab color (found.At k)
+      unfolding listNumber
       nearest-accepted z o k p q =
-          granted found.Refused (listNumber reduced normalized oklab) r (found.At k) (found.At (nearestOf (flat reduced normalized oklab) (toOklab color))) e z
+          granted numberOf _ (nearestAnswer reduced normalized oklab color) found.Refused refl (λ m. refl) (λ m. refl) n e z (found.At k)
           (ap found.At (q ∙ ap (nearestIn (oklabAt oklab) (length reduced / 4)) p))
 
-      module _ (width : ℕ) where
-        pub two-accepted : r ≡ 0 → (o : Oklab) (t : Two) → o ≡ toOklab color → t ≡ nearestTwoOf (flat reduced normalized oklab) width o color → two.At t ≡ nearestTwoAnswer reduced normalized oklab color width
-        unfolding nearestTwoAnswer
+    pub nearest-lowest : {r : Found} → FlatNearest reduced normalized oklab color r → Lowest (listReplies reduced normalized oklab) (numberOf r)
+    nearest-lowest a = lowest-number a tt
+
+    -- a position is answered of an accepted list
+    pub nearest-given : {x : Found} {k : ℕ} → FlatNearest reduced normalized oklab color x → x ≡ found.At k
+        → (listNumber reduced normalized oklab ≡ 0) × (k ≡ nearestOf (flat reduced normalized oklab) (toOklab color))
+    unfolding listNumber
+    nearest-given {x} {k} a e =
+        let z : firstReply (listReplies reduced normalized oklab) ≡ 0 = sym (a .number) ∙ ap numberOf e in
+        let s : found.At k ≡ nearestAnswer reduced normalized oklab color 0 = sym e ∙ answered _ _ _ a ∙ ap (nearestAnswer reduced normalized oklab color) z in
+        (z, cc)
+
+    -- no entry is nearer than the one answered, and every earlier entry is farther
+    pub flat-least : {k : ℕ} → FlatNearest reduced normalized oklab color (found.At k) → Bytes color
+        → Least lt (distances (toOklab color) (oklabAt oklab)) (length reduced / 4) k
+    flat-least {k} a C =
+        let g = nearest-given a refl in
+        let A = accepted reduced normalized oklab (g .0) in
+        subst (Least lt (distances (toOklab color) (oklabAt oklab)) (length reduced / 4)) (sym (g .1))
+        (nearest-least (flat reduced normalized oklab) (toOklab color) (A .positive) (A .ranged .range)
+        (in-range color (toOklab color) refl (C .r) (C .g) (C .b)))
+
+    module _ (width : ℕ) where
+      module _ (n : ℕ) (e : n ≡ listNumber reduced normalized oklab) where
+        pub two-refused : (n ≡ 0 → ⊥) → FlatTwo reduced normalized oklab color width (two.Refused n)
+        unfolding listNumber
+        two-refused = refused numberOfTwo _ (nearestTwoAnswer reduced normalized oklab color width) two.Refused refl (λ m. refl) (λ m. refl) n e
+
+        pub two-accepted : n ≡ 0 → (o : Oklab) (t : Two) → o ≡ toOklab color → t ≡ nearestTwoOf (flat reduced normalized oklab) width o color
+            → FlatTwo reduced normalized oklab color width (two.At t)
+        unfolding listNumber
         two-accepted z o t p q =
-            granted two.Refused (listNumber reduced normalized oklab) r (two.At t) (two.At (nearestTwoOf (flat reduced normalized oklab) width (toOklab color) color)) e z
+            granted numberOfTwo _ (nearestTwoAnswer reduced normalized oklab color width) two.Refused refl (λ m. refl) (λ m. refl) n e z (two.At t)
             (ap two.At (q ∙ ap (λ (u : Oklab). nearestTwoOf (flat reduced normalized oklab) width u color) p))
+
+        pub bracket-refused : (n ≡ 0 → ⊥) → FlatBracket reduced normalized oklab color width (bracket.Refused n)
+        unfolding listNumber
+        bracket-refused = refused numberOfBracket _ (bracketAnswer reduced normalized oklab color width) bracket.Refused refl (λ m. refl) (λ m. refl) n e
+
+        pub bracket-accepted : n ≡ 0 → (o : Oklab) (b : Bracket) → o ≡ toOklab color → b ≡ bracketOf (flat reduced normalized oklab) width o color
+            → FlatBracket reduced normalized oklab color width (bracket.Of b)
+        unfolding listNumber
+        bracket-accepted z o b p q =
+            granted numberOfBracket _ (bracketAnswer reduced normalized oklab color width) bracket.Refused refl (λ m. refl) (λ m. refl) n e z (bracket.Of b)
+            (ap bracket.Of (q ∙ ap (λ (u : Oklab). bracketOf (flat reduced normalized oklab) width u color) p))
+
+      pub two-lowest : {r : FoundTwo} → FlatTwo reduced normalized oklab color width r → Lowest (listReplies reduced normalized oklab) (numberOfTwo r)
+      two-lowest a = lowest-number a tt
+
+      pub bracket-lowest : {r : FoundBracket} → FlatBracket reduced normalized oklab color width r
+          → Lowest (listReplies reduced normalized oklab) (numberOfBracket r)
+      bracket-lowest a = lowest-number a tt
+
+      -- two positions are answered of an accepted list
+      pub two-given : {x : FoundTwo} {t : Two} → FlatTwo reduced normalized oklab color width x → x ≡ two.At t
+          → (listNumber reduced normalized oklab ≡ 0) × (t ≡ nearestTwoOf (flat reduced normalized oklab) width (toOklab color) color)
+      unfolding listNumber
+      two-given {x} {t} a e =
+          let z : firstReply (listReplies reduced normalized oklab) ≡ 0 = sym (a .number) ∙ ap numberOfTwo e in
+          let s : two.At t ≡ nearestTwoAnswer reduced normalized oklab color width 0 =
+          sym e ∙ answered _ _ _ a ∙ ap (nearestTwoAnswer reduced normalized oklab color width) z in
+          (z, cc)
+
+      -- the two that are answered are what document 01 says of them: the nearest, and of its shortlist the one that mixes best
+      pub flat-second : {t : Two} → FlatTwo reduced normalized oklab color width (two.At t) → Bytes color → ((i : ℕ) → getD normalized i 0 < 256)
+          → NearestTwo (flat reduced normalized oklab) width (toOklab color) color t
+      unfolding rgbaAt
+      flat-second {t} a C bytes =
+          let g = two-given a refl in
+          let A = accepted reduced normalized oklab (g .0) in
+          subst (NearestTwo (flat reduced normalized oklab) width (toOklab color) color) (sym (g .1))
+          (nearest-two-is (flat reduced normalized oklab) width (toOklab color) color (A .positive) (A .ranged .range)
+          (in-range color (toOklab color) refl (C .r) (C .g) (C .b)) (λ k h. record { r = bytes (4 * k); g = bytes (4 * k + 1); b = bytes (4 * k + 2) }) C)
+
+      -- and no other two are
+      pub flat-second-only : listNumber reduced normalized oklab ≡ 0 → (t u : Two) → NearestTwo (flat reduced normalized oklab) width (toOklab color) color t
+          → NearestTwo (flat reduced normalized oklab) width (toOklab color) color u → t ≡ u
+      flat-second-only e =
+          let A = accepted reduced normalized oklab e in
+          nearest-two-only (flat reduced normalized oklab) width (toOklab color) color (A .positive) (A .ranged .range)
+
+-- ---- pick
+pub pick-lowest : (b : Bracket) (kind x y : ℕ) {r : Picked} → PickedAt b kind x y r → Lowest (pickReplies kind) (numberOfPicked r)
+pick-lowest b kind x y a = lowest-number a tt
+
+module _ (b : Bracket) (kind x y : ℕ) (t : Thresholded) (e : t ≡ thresholdOf kind x y) where
+  -- its number is that of the threshold
+  threshold-number : patterns.numberOf t ≡ firstReply (pickReplies kind)
+  threshold-number =
+      ap patterns.numberOf e ∙ thresholds.number-is kind x y ∙ (λ i. cond (sym (kind-is kind) i) (cond (sym (ordered-is kind) i) 0 9) 1)
+      ∙ turned (isKind kind) (isOrdered kind)
+    where
+      turned : (s u : Bool) → _≡_ {A = ℕ} (cond s (cond u 0 9) 1) (cond (not s) 1 (cond (not u) 9 0))
+      turned true true = refl
+      turned true false = refl
+      turned false u = refl
+
+  -- where none applies, it is a threshold
+  threshold-given : firstReply (pickReplies kind) ≡ 0 → t ≡ thresholded.At (thresholdAt kind x y)
+  threshold-given z =
+      let none = reply-none (pickReplies kind) tt z in
+      e ∙ thresholds.ordered-answer kind x y (holds (not-false (isOrdered kind) (none .1 .0)))
+
+  pub pick-refused : (n : ℕ) → t ≡ thresholded.Refused n → PickedAt b kind x y (picked.Refused n)
+  pick-refused n q =
+      refused numberOfPicked _ (pickAnswer b kind x y) picked.Refused refl (λ m. refl) (λ m. refl) n number
+      (λ z. never (sym q ∙ threshold-given (sym number ∙ z)))
+    where
+      number : n ≡ firstReply (pickReplies kind)
+      number = ap patterns.numberOf (sym q) ∙ threshold-number
+
+      never : {v : Float} → thresholded.Refused n ≡ thresholded.At v → ⊥
+      never h = let z : _≡_ {A = ℕ} 0 1 = cc in omega arith
+
+  pub pick-accepted : (v : Float) → t ≡ thresholded.At v → (c : ReducedColor) → c ≡ pickAt b v → PickedAt b kind x y (picked.Color c)
+  pick-accepted v q c p =
+      granted numberOfPicked _ (pickAnswer b kind x y) picked.Refused refl (λ m. refl) (λ m. refl) 0 number refl (picked.Color c)
+      (ap picked.Color (p ∙ ap (pickAt b) value))
+    where
+      number : 0 ≡ firstReply (pickReplies kind)
+      number = ap patterns.numberOf (sym q) ∙ threshold-number
+
+      value : v ≡ thresholdAt kind x y
+      value = same (sym q ∙ threshold-given (sym number))
+        where
+          same : {w : Float} → thresholded.At v ≡ thresholded.At w → v ≡ w
+          same h = cc

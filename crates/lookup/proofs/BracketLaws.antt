@@ -1,5 +1,5 @@
 -- The bracket: what the functions that make it answer; its positions are entries; one entry alone makes a solid bracket. What is picked: dark of equal
--- colours and of a NaN ratio; the number of a pick is the threshold's. Assumes nothing.
+-- colours and of a NaN ratio. Assumes nothing.
 use mathlib.Core.Path.{_≡_, refl, sym, ap, _∙_, subst}
 use mathlib.Core.Bool.{Bool, true, false, cond, not, _&&_}
 use Prim.Native.Nat.{ℕ, _<_}
@@ -12,13 +12,9 @@ use Rattle.color.specs.Color.{sameReduced}
 use Rattle.color.specs.Oklab.{allInRange}
 use Rattle.color.proofs.Same.{equal→same}
 use Rattle.mixing.specs.Lerp.{lerpOf}
-use Rattle.patterns.specs.declared.Thresholded.{Thresholded}
-use Rattle.patterns.specs.declared.Thresholded.the-variants as thresholded
-use Rattle.patterns.specs.Thresholds.{thresholdOf, numberOf}
 use Rattle.shortlist.specs.Candidates.{Candidates}
 use Rattle.lookup.specs.Second.{nearestTwoOf}
-use Rattle.lookup.specs.Bracket.{bracketWith, solidAt, bracketTwo, bracketAtOf, pickAt, pickIn, pickOf}
-use Rattle.lookup.specs.Answers.{numberOfPicked}
+use Rattle.lookup.specs.Bracket.{bracketWith, solidAt, bracketTwo, bracketAtOf, pickAt}
 use Rattle.lookup.specs.declared.BracketAt.{BracketAt}
 use Rattle.lookup.specs.declared.Bracket.{Bracket}
 use Rattle.lookup.specs.declared.Two.{Two}
@@ -27,18 +23,16 @@ use Rattle.lookup.specs.declared.Second.the-variants.{At, Nothing}
 use Rattle.lookup.proofs.TwoLaws.{first-inside, second-inside, one-alone}
 
 -- ---- what `bracket_with` answers
-module _ (oklab : ℕ → Oklab) (normalized : ℕ → NormalizedColor) (c : NormalizedColor) (a b : ℕ) (p q : Oklab) (c1 c2 : NormalizedColor) (t : Float) (P : p ≡ oklab a) (Q : q ≡ oklab b) (C1 : c1 ≡ normalized a) (C2 : c2 ≡ normalized b) (s : t ≡ lerpOf c1 c2 c true) where
+module _ (oklab : ℕ → Oklab) (a b : ℕ) (c1 c2 c : NormalizedColor) (p q : Oklab) (t : Float) (P : p ≡ oklab a) (Q : q ≡ oklab b)
+    (ratio : t ≡ lerpOf c1 c2 c true) where
   test : (u : Bool) → le (p .l) (q .l) ≡ u → le (oklab a .l) (oklab b .l) ≡ u
   test u e = (λ i. le (sym P i .l) (sym Q i .l)) ∙ e
 
-  ratio : t ≡ lerpOf (normalized a) (normalized b) c true
-  ratio = s ∙ (λ i. lerpOf (C1 i) (C2 i) c true)
-
-  pub lighter : le (p .l) (q .l) ≡ true → _≡_ {A = BracketAt} (record { dark = a; light = b; ratio = t }) (bracketWith oklab normalized c a b)
+  pub lighter : le (p .l) (q .l) ≡ true → _≡_ {A = BracketAt} (record { dark = a; light = b; ratio = t }) (bracketWith oklab a b c1 c2 c)
   unfolding bracketWith
   lighter e = rw (test true e) (λ i. record { dark = a; light = b; ratio = ratio i })
 
-  pub darker : le (p .l) (q .l) ≡ false → _≡_ {A = BracketAt} (record { dark = b; light = a; ratio = sub binary32 oneF t }) (bracketWith oklab normalized c a b)
+  pub darker : le (p .l) (q .l) ≡ false → _≡_ {A = BracketAt} (record { dark = b; light = a; ratio = sub binary32 oneF t }) (bracketWith oklab a b c1 c2 c)
   unfolding bracketWith
   darker e = rw (test false e) (λ i. record { dark = b; light = a; ratio = sub binary32 oneF (ratio i) })
 
@@ -47,13 +41,16 @@ module _ (cs : Candidates) (width : ℕ) (o : Oklab) (c : NormalizedColor) where
   module _ (two : Two) (e : two ≡ nearestTwoOf cs width o c) (r : BracketAt) where
     by-second : (s : Second) → two .second ≡ s → r ≡ bracketTwo (cs .oklab) (cs .normalized) c (two .first) s → r ≡ bracketAtOf cs width o c
     unfolding bracketAtOf
-    by-second s q h = h ∙ ap (bracketTwo (cs .oklab) (cs .normalized) c (two .first)) (sym q) ∙ ap (λ (t : Two). bracketTwo (cs .oklab) (cs .normalized) c (t .first) (t .second)) e
+    by-second s q h =
+        h ∙ ap (bracketTwo (cs .oklab) (cs .normalized) c (two .first)) (sym q)
+        ∙ ap (λ (t : Two). bracketTwo (cs .oklab) (cs .normalized) c (t .first) (t .second)) e
 
     pub solid-is : two .second ≡ Nothing → r ≡ solidAt (two .first) → r ≡ bracketAtOf cs width o c
     solid-is q h = by-second Nothing q h
 
-    pub pair-is : (b : ℕ) → two .second ≡ At b → r ≡ bracketWith (cs .oklab) (cs .normalized) c (two .first) b → r ≡ bracketAtOf cs width o c
-    pair-is b q h = by-second (At b) q h
+    pub pair-is : (b : ℕ) → two .second ≡ At b → (c1 c2 : NormalizedColor) → c1 ≡ cs .normalized (two .first) → c2 ≡ cs .normalized b
+        → r ≡ bracketWith (cs .oklab) (two .first) b c1 c2 c → r ≡ bracketAtOf cs width o c
+    pair-is b q c1 c2 p₁ p₂ h = by-second (At b) q (h ∙ (λ i. bracketWith (cs .oklab) (two .first) b (p₁ i) (p₂ i) c))
 
   module _ (positive : 0 < cs .count) where
     -- one entry alone: the bracket is solid
@@ -61,7 +58,8 @@ module _ (cs : Candidates) (width : ℕ) (o : Oklab) (c : NormalizedColor) where
     one-solid h = sym (solid-is (nearestTwoOf cs width o c) refl (solidAt (nearestTwoOf cs width o c .first)) (one-alone cs width o c positive h) refl)
 
     -- dark and light are entries
-    pub bracket-inside : ((k : ℕ) → k < cs .count → T (allInRange (cs .oklab k))) → (bracketAtOf cs width o c .dark < cs .count) × (bracketAtOf cs width o c .light < cs .count)
+    pub bracket-inside : ((k : ℕ) → k < cs .count → T (allInRange (cs .oklab k)))
+        → (bracketAtOf cs width o c .dark < cs .count) × (bracketAtOf cs width o c .light < cs .count)
     unfolding bracketAtOf bracketWith
     bracket-inside range = go (nearestTwoOf cs width o c .second) (second-inside cs width o c positive range)
       where
@@ -74,33 +72,29 @@ module _ (cs : Candidates) (width : ℕ) (o : Oklab) (c : NormalizedColor) where
         Inside : BracketAt → Type 0
         Inside r = (r .dark < cs .count) × (r .light < cs .count)
 
-        ends : (u : Bool) (b : ℕ) (x y : Float) → b < cs .count → Inside (cond u (record { dark = a; light = b; ratio = x }) (record { dark = b; light = a; ratio = y }))
+        ends : (u : Bool) (b : ℕ) (x y : Float) → b < cs .count
+            → Inside (cond u (record { dark = a; light = b; ratio = x }) (record { dark = b; light = a; ratio = y }))
         ends true b x y B = (A, B)
         ends false b x y B = (B, A)
 
-        go : (s : Second) → ((b : ℕ) → s ≡ At b → b < cs .count) → (bracketTwo (cs .oklab) (cs .normalized) c a s .dark < cs .count) × (bracketTwo (cs .oklab) (cs .normalized) c a s .light < cs .count)
+        go : (s : Second) → ((b : ℕ) → s ≡ At b → b < cs .count)
+            → (bracketTwo (cs .oklab) (cs .normalized) c a s .dark < cs .count) × (bracketTwo (cs .oklab) (cs .normalized) c a s .light < cs .count)
         go Nothing h = (A, A)
         go (At b) h = ends (le (cs .oklab a .l) (cs .oklab b .l)) b _ _ (h b refl)
 
 -- the same of an answer that is equal to it
-pub bracket-entries : (cs : Candidates) (width : ℕ) (o : Oklab) (c : NormalizedColor) (at : BracketAt) → at ≡ bracketAtOf cs width o c → 0 < cs .count → ((k : ℕ) → k < cs .count → T (allInRange (cs .oklab k)))
+pub bracket-entries : (cs : Candidates) (width : ℕ) (o : Oklab) (c : NormalizedColor) (at : BracketAt) → at ≡ bracketAtOf cs width o c → 0 < cs .count
+    → ((k : ℕ) → k < cs .count → T (allInRange (cs .oklab k)))
     → (at .dark < cs .count) × (at .light < cs .count)
-bracket-entries cs width o c at e positive range = subst (λ (r : BracketAt). (r .dark < cs .count) × (r .light < cs .count)) (sym e) (bracket-inside cs width o c positive range)
+bracket-entries cs width o c at e positive range =
+    subst (λ (r : BracketAt). (r .dark < cs .count) × (r .light < cs .count)) (sym e) (bracket-inside cs width o c positive range)
 
 -- ---- what is picked
 
--- where the colours are equal, dark; a refusal is that of the threshold, whatever the colours are
+-- where the colours are equal, dark
 pub equal-dark : (b : Bracket) (t : Float) → b .dark ≡ b .light → pickAt b t ≡ b .dark
 unfolding pickAt
 equal-dark b t e = rw (equal→same (b .dark) (b .light) e)
-
-pub pick-number : (b : Bracket) (kind x y : ℕ) → numberOfPicked (pickOf b kind x y) ≡ numberOf (thresholdOf kind x y)
-unfolding pickOf
-pick-number b kind x y = go (thresholdOf kind x y)
-  where
-    go : (t : Thresholded) → numberOfPicked (pickIn b t) ≡ numberOf t
-    go (thresholded.At v) = refl
-    go (thresholded.Refused n) = refl
 
 -- a NaN ratio picks dark
 pub nan-dark : (b : Bracket) (t : Float) → b .ratio ≡ nan → pickAt b t ≡ b .dark

@@ -6,14 +6,16 @@ use mathlib.Core.Logic.{_⊎_, inl, inr}
 use mathlib.Core.List.{List, [], _∷_, _++_}
 use mathlib.Core.Bool.{Bool, true, false, cond, _||_}
 use Prim.Native.Nat.{ℕ, zero, suc, _+_, _≤_, _<_}
-use native.Mathlib.Nat.{not-suc-le-zero}
+use native.Mathlib.Nat.{not-suc-le-zero, le-antisymm, le-refl}
 use native.Mathlib.Numerals.{add-one}
 use native.Mathlib.Omega.{arith}
-use lib.Dec.{eqb}
+use lib.Dec.{T, eqb}
 use lib.ListN.{length, getD, take, length-append, List·getD-append}
-use lib.Seq.{take-suc, getD-take, length-take-le, getD-append-add}
-use lib.Ieee.{Float, lt}
-use Rattle.floats.proofs.Order.{Plain, upto-plain}
+use lib.Seq.{take-suc, take-take, getD-take, length-take-le, getD-append-add}
+use lib.Ieee.{Float, binary32, lt, fits}
+use lib.Ieee.Fits.{add-fits}
+use Rattle.floats.specs.Bytes.{dot}
+use Rattle.floats.proofs.Order.{Plain, upto-plain, trichotomy}
 use Rattle.lists.specs.Least.{leastOf}
 use Rattle.lists.specs.Order.{In}
 use Rattle.lists.proofs.LeastLaws.{least-step, least-one, least-inside, least-same, least-is, least-only}
@@ -22,7 +24,7 @@ use Rattle.color.specs.declared.NormalizedColor.{NormalizedColor}
 use Rattle.mixing.specs.Lerp.{shareOf, lerpOf, between, mixResidual, Bytes}
 use Rattle.mixing.proofs.Between.{between-within}
 use Rattle.mixing.proofs.Residuals.{residual-upto}
-use Rattle.lookup.specs.Second.{those, leastAmong, secondIn, secondOf, IsSecondIn, mixable, mixError, Held, improved, weighed}
+use Rattle.lookup.specs.Second.{those, leastAmong, secondIn, secondOf, IsSecondIn, mixable, mixError, Held, BestBeside, improved, weighed}
 use Rattle.lookup.specs.declared.Best.{Best}
 use Rattle.lookup.specs.declared.Second.{Second}
 use Rattle.lookup.specs.declared.Second.the-variants.{At, Nothing}
@@ -69,49 +71,75 @@ held-more e best [] k h =
     subst (λ (b : ℕ). Held e (cond (eqb b 0 || lt (e k) (best .error)) (record { found = 1; error = e k; position = k }) best) (k ∷ [])) (sym h)
     (refl, sym (among-one e k), ap e (sym (among-one e k)))
 held-more e best (j ∷ js) k h =
-    subst (λ (b : ℕ). Held e (cond (eqb b 0 || lt (e k) (best .error)) (record { found = 1; error = e k; position = k }) best) (j ∷ (js ++ k ∷ []))) (sym (h .0))
+    subst (λ (b : ℕ). Held e (cond (eqb b 0 || lt (e k) (best .error)) (record { found = 1; error = e k; position = k }) best) (j ∷ (js ++ k ∷ [])))
+    (sym (h .0))
     (go (lt (e k) (best .error)) (ap (lt (e k)) (sym (h .2))))
   where
     go : (u : Bool) → lt (e k) (e (leastAmong e (j ∷ js))) ≡ u → Held e (cond u (record { found = 1; error = e k; position = k }) best) (j ∷ (js ++ k ∷ []))
     go true g = let m : k ≡ leastAmong e (j ∷ (js ++ k ∷ [])) = sym (among-more e (j ∷ js) k (omega arith) ∙ rw g) in (refl, m, ap e m)
-    go false g = let m : leastAmong e (j ∷ js) ≡ leastAmong e (j ∷ (js ++ k ∷ [])) = sym (among-more e (j ∷ js) k (omega arith) ∙ rw g) in (h .0, h .1 ∙ m, h .2 ∙ ap e m)
+    go false g =
+        let m : leastAmong e (j ∷ js) ≡ leastAmong e (j ∷ (js ++ k ∷ [])) = sym (among-more e (j ∷ js) k (omega arith) ∙ rw g) in
+        (h .0, h .1 ∙ m, h .2 ∙ ap e m)
 
 those-more : (p : ℕ → Bool) (xs : List ℕ) (k : ℕ) → those p (xs ++ k ∷ []) ≡ cond (p k) (those p xs ++ k ∷ []) (those p xs)
 those-more p [] k = refl
 those-more p (x ∷ xs) k = go (p x) (p k) (those-more p xs k)
   where
     go : (u v : Bool) → those p (xs ++ k ∷ []) ≡ cond v (those p xs ++ k ∷ []) (those p xs)
-        → cond u (x ∷ those p (xs ++ k ∷ [])) (those p (xs ++ k ∷ [])) ≡ cond v (cond u (x ∷ those p xs) (those p xs) ++ k ∷ []) (cond u (x ∷ those p xs) (those p xs))
+        → cond u (x ∷ those p (xs ++ k ∷ [])) (those p (xs ++ k ∷ []))
+        ≡ cond v (cond u (x ∷ those p xs) (those p xs) ++ k ∷ []) (cond u (x ∷ those p xs) (those p xs))
     go true true q = ap (λ (l : List ℕ). x ∷ l) q
     go true false q = ap (λ (l : List ℕ). x ∷ l) q
     go false true q = q
     go false false q = q
 
 -- what `weigh` answers
-pub weighed-is : (best r : Best) (k : ℕ) (a b c : NormalizedColor) (t : Float) (s : Bool) (x : Float) → t ≡ lerpOf a b c false → s ≡ between t → x ≡ mixResidual a b t c → r ≡ improved best k s x → r ≡ weighed best k a b c
+pub weighed-is : (best r : Best) (k : ℕ) (a b c : NormalizedColor) (t : Float) (s : Bool) (x : Float) → t ≡ lerpOf a b c false → s ≡ between t
+    → x ≡ mixResidual a b t c → r ≡ improved best k s x → r ≡ weighed best k a b c
 unfolding weighed lerpOf
 weighed-is best r k a b c t s x T S X e =
-    e ∙ ap (λ (u : Bool). improved best k u x) (S ∙ ap between T) ∙ ap (improved best k (between (shareOf a b c))) (X ∙ ap (λ (v : Float). mixResidual a b v c) T)
+    e ∙ ap (λ (u : Bool). improved best k u x) (S ∙ ap between T)
+    ∙ ap (improved best k (between (shareOf a b c))) (X ∙ ap (λ (v : Float). mixResidual a b v c) T)
+
+-- the first i of the first n of an array have had their turn beside entry a, whose colour is c1
+pub record Weighing (normalized : ℕ → NormalizedColor) (a : ℕ) (c c1 : NormalizedColor) (ps : List ℕ) (n i : ℕ) (best : Best) : Type 0 where
+  pub passed : i ≤ n
+  pub beside : c1 ≡ normalized a
+  pub held : BestBeside normalized a c (take i (take n ps)) best
 
 module _ (normalized : ℕ → NormalizedColor) (a : ℕ) (c : NormalizedColor) where
-  one-more : (best : Best) (ks : List ℕ) (k : ℕ) → Held (mixError normalized a c) best (those (mixable normalized a c) ks)
-      → Held (mixError normalized a c) (weighed best k (normalized a) (normalized k) c) (those (mixable normalized a c) (ks ++ k ∷ []))
+  one-more : (best : Best) (ks : List ℕ) (k : ℕ) → BestBeside normalized a c ks best
+      → BestBeside normalized a c (ks ++ k ∷ []) (weighed best k (normalized a) (normalized k) c)
   unfolding weighed improved
   one-more best ks k h = rw (those-more (mixable normalized a c) ks k) (go (mixable normalized a c k))
     where
-      go : (u : Bool) → Held (mixError normalized a c) (improved best k u (mixError normalized a c k)) (cond u (those (mixable normalized a c) ks ++ k ∷ []) (those (mixable normalized a c) ks))
+      go : (u : Bool) → Held (mixError normalized a c) (improved best k u (mixError normalized a c k))
+          (cond u (those (mixable normalized a c) ks ++ k ∷ []) (those (mixable normalized a c) ks))
       go true = held-more (mixError normalized a c) best (those (mixable normalized a c) ks) k h
       go false = h
 
-  -- a turn of the loop over the first n of an array
-  pub weighed-more : (best r : Best) (c1 c2 : NormalizedColor) (ps : List ℕ) (n i : ℕ) → i < n → n ≤ length ps → c1 ≡ normalized a → c2 ≡ normalized (getD ps i 0) → r ≡ weighed best (getD ps i 0) c1 c2 c
-      → Held (mixError normalized a c) best (those (mixable normalized a c) (take i (take n ps))) → Held (mixError normalized a c) r (those (mixable normalized a c) (take (i + 1) (take n ps)))
-  weighed-more best r c1 c2 ps n i h l p q w held =
-      let at : getD (take n ps) i 0 ≡ getD ps i 0 = getD-take n ps i 0 h in
-      let long : i < length (take n ps) = omega (arith, length-take-le n ps l) in
-      let next : take (i + 1) (take n ps) ≡ take i (take n ps) ++ getD ps i 0 ∷ [] = ap (λ (m : ℕ). take m (take n ps)) (add-one i) ∙ take-suc (take n ps) i 0 long ∙ ap (λ (k : ℕ). take i (take n ps) ++ k ∷ []) at in
-      let same : r ≡ weighed best (getD ps i 0) (normalized a) (normalized (getD ps i 0)) c = w ∙ (λ j. weighed best (getD ps i 0) (p j) (q j) c) in
-      rw (next, same) (one-more best (take i (take n ps)) (getD ps i 0) held)
+  module _ (ps : List ℕ) (n : ℕ) where
+    pub weighing-none : (c1 : NormalizedColor) (best : Best) → c1 ≡ normalized a → best .found ≡ 0 → Weighing normalized a c c1 ps n 0 best
+    weighing-none c1 best p e = record { passed = omega arith; beside = p; held = e }
+
+    -- a turn of the loop
+    pub weighing-more : {c1 : NormalizedColor} {i : ℕ} {best : Best} → Weighing normalized a c c1 ps n i best → i < n → n ≤ length ps
+        → (c2 : NormalizedColor) → c2 ≡ normalized (getD ps i 0) → (r : Best) → r ≡ weighed best (getD ps i 0) c1 c2 c
+        → Weighing normalized a c c1 ps n (i + 1) r
+    weighing-more {c1} {i} {best} w h l c2 q r e =
+        let k : ℕ = getD ps i 0 in
+        let at : getD (take n ps) i 0 ≡ k = getD-take n ps i 0 h in
+        let long : i < length (take n ps) = omega (arith, length-take-le n ps l) in
+        let next : take (i + 1) (take n ps) ≡ take i (take n ps) ++ k ∷ [] =
+        ap (λ (m : ℕ). take m (take n ps)) (add-one i) ∙ take-suc (take n ps) i 0 long ∙ ap (λ (j : ℕ). take i (take n ps) ++ j ∷ []) at in
+        let same : r ≡ weighed best k (normalized a) (normalized k) c = e ∙ (λ j. weighed best k (w .beside j) (q j) c) in
+        record { passed = omega arith; beside = w .beside; held = rw (next, same) (one-more best (take i (take n ps)) k (w .held)) }
+
+    pub weighing-all : {c1 : NormalizedColor} {i : ℕ} {best : Best} → Weighing normalized a c c1 ps n i best → n ≤ i
+        → BestBeside normalized a c (take n ps) best
+    weighing-all {i = i} {best = best} w l =
+        subst (λ (ks : List ℕ). BestBeside normalized a c ks best)
+        (ap (λ (m : ℕ). take m (take n ps)) (le-antisymm (w .passed) l) ∙ take-take n n ps (le-refl n)) (w .held)
 
 -- ---- the end: what the loop held, read out
 module _ (e : ℕ → Float) (best : Best) where
@@ -172,7 +200,8 @@ module _ (p : ℕ → Bool) (e : ℕ → Float) (ks : List ℕ) where
       is qs = refl
 
       go : (qs ks : List ℕ) → ((k : ℕ) → In k qs → Plain (e k)) → IsSecondIn e qs ks (secondIn e qs ks)
-      go (q ∷ qs) ks h = (leastOf lt (λ (j : ℕ). e (getD (q ∷ qs) j 0)) (length (q ∷ qs)), least-is by-lt (length (q ∷ qs)) (omega arith) (known (q ∷ qs) h), is (q ∷ qs))
+      go (q ∷ qs) ks h =
+          (leastOf lt (λ (j : ℕ). e (getD (q ∷ qs) j 0)) (length (q ∷ qs)), least-is by-lt (length (q ∷ qs)) (omega arith) (known (q ∷ qs) h), is (q ∷ qs))
       go [] (k ∷ ks) h = refl
       go [] [] h = refl
 
@@ -184,7 +213,21 @@ module _ (p : ℕ → Bool) (e : ℕ → Float) (ks : List ℕ) where
       go [] (k ∷ ks) a b = a ∙ sym b
       go [] [] a b = a ∙ sym b
 
--- an error that is compared is finite, not negative and not -0, so no NaN arises
-pub error-plain : (normalized : ℕ → NormalizedColor) (a : ℕ) (c : NormalizedColor) (k : ℕ) → Bytes (normalized a) → Bytes (normalized k) → Bytes c → mixable normalized a c k ≡ true → Plain (mixError normalized a c k)
-error-plain normalized a c k A K C t =
-    upto-plain 3121200 (mixError normalized a c k) (residual-upto (normalized a) (normalized k) (shareOf (normalized a) (normalized k) c) c A K (between-within (shareOf (normalized a) (normalized k) c) t) C)
+-- ---- the errors that are compared
+module _ (normalized : ℕ → NormalizedColor) (a : ℕ) (c : NormalizedColor) (A : Bytes (normalized a)) (C : Bytes c) where
+  -- such an error is finite, not negative and not -0, so no NaN arises
+  pub error-plain : (k : ℕ) → Bytes (normalized k) → mixable normalized a c k ≡ true → Plain (mixError normalized a c k)
+  error-plain k K t =
+      let share : Float = shareOf (normalized a) (normalized k) c in
+      upto-plain 3121200 (mixError normalized a c k) (residual-upto (normalized a) (normalized k) share c A K (between-within share t) C)
+
+  error-fits : (k : ℕ) → T (fits binary32 (mixError normalized a c k))
+  unfolding mixResidual dot
+  error-fits k = add-fits binary32 _ _
+
+  -- one is below the other, or they are the same: on them `<` decides as the Rust's `total_cmp` does
+  pub error-order : (j k : ℕ) → Bytes (normalized j) → Bytes (normalized k) → mixable normalized a c j ≡ true → mixable normalized a c k ≡ true
+      → T (lt (mixError normalized a c j) (mixError normalized a c k))
+      ⊎ ((mixError normalized a c j ≡ mixError normalized a c k) ⊎ T (lt (mixError normalized a c k) (mixError normalized a c j)))
+  error-order j k J K s t =
+      trichotomy binary32 (mixError normalized a c j) (mixError normalized a c k) (error-plain j J s) (error-plain k K t) (error-fits j) (error-fits k)

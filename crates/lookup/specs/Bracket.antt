@@ -10,24 +10,19 @@ use Rattle.color.specs.declared.NormalizedColor.{NormalizedColor}
 use Rattle.color.specs.declared.Oklab.{Oklab}
 use Rattle.color.specs.Color.{sameReduced}
 use Rattle.mixing.specs.Lerp.{lerpOf}
-use Rattle.patterns.specs.declared.Thresholded.{Thresholded}
-use Rattle.patterns.specs.Thresholds.{thresholdOf}
 use Rattle.shortlist.specs.Candidates.{Candidates}
 use Rattle.lookup.specs.Second.{nearestTwoOf}
 use Rattle.lookup.specs.declared.Second.{Second}
 use Rattle.lookup.specs.declared.Second.the-variants.{At, Nothing}
 use Rattle.lookup.specs.declared.BracketAt.{BracketAt}
 use Rattle.lookup.specs.declared.Bracket.{Bracket}
-use Rattle.lookup.specs.declared.Picked.{Picked}
-use Rattle.lookup.specs.declared.Picked.the-variants as picked
-use Rattle.patterns.specs.declared.Thresholded.the-variants as thresholded
 
--- entries a and b as a bracket for c
-unfoldable pub bracketWith : (ℕ → Oklab) → (ℕ → NormalizedColor) → NormalizedColor → ℕ → ℕ → BracketAt
-bracketWith oklab normalized c a b =
+-- entries a and b, whose normalised colours are c1 and c2, as a bracket for c
+unfoldable pub bracketWith : (ℕ → Oklab) → ℕ → ℕ → NormalizedColor → NormalizedColor → NormalizedColor → BracketAt
+bracketWith oklab a b c1 c2 c =
     cond (le (oklab a .l) (oklab b .l))
-    (record { dark = a; light = b; ratio = lerpOf (normalized a) (normalized b) c true })
-    (record { dark = b; light = a; ratio = sub binary32 oneF (lerpOf (normalized a) (normalized b) c true) })
+    (record { dark = a; light = b; ratio = lerpOf c1 c2 c true })
+    (record { dark = b; light = a; ratio = sub binary32 oneF (lerpOf c1 c2 c true) })
 
 -- one entry alone: dark and light are the same
 abbrev pub solidAt : ℕ → BracketAt
@@ -36,7 +31,7 @@ solidAt a = record { dark = a; light = a; ratio = zeroF }
 -- entry a, and the second if there is one
 abbrev pub bracketTwo : (ℕ → Oklab) → (ℕ → NormalizedColor) → NormalizedColor → ℕ → Second → BracketAt
 bracketTwo oklab normalized c a Nothing = solidAt a
-bracketTwo oklab normalized c a (At b) = bracketWith oklab normalized c a b
+bracketTwo oklab normalized c a (At b) = bracketWith oklab a b (normalized a) (normalized b) c
 
 -- the positions and the ratio, for a colour c that is o in Oklab
 unfoldable pub bracketAtOf : Candidates → ℕ → Oklab → NormalizedColor → BracketAt
@@ -52,11 +47,3 @@ bracketOf cs width o c = colored (cs .reduced) (bracketAtOf cs width o c)
 -- light, if the two differ and its ratio exceeds the threshold; a NaN exceeds nothing
 unfoldable pub pickAt : Bracket → Float → ReducedColor
 pickAt b threshold = cond (not (sameReduced (b .dark) (b .light)) && lt threshold (b .ratio)) (b .light) (b .dark)
-
--- what `pick` answers: `ordered_threshold`'s refusals are its own
-abbrev pub pickIn : Bracket → Thresholded → Picked
-pickIn b (thresholded.At t) = picked.Color (pickAt b t)
-pickIn b (thresholded.Refused n) = picked.Refused n
-
-unfoldable pub pickOf : Bracket → ℕ → ℕ → ℕ → Picked
-pickOf b kind x y = pickIn b (thresholdOf kind x y)

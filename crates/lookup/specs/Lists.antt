@@ -1,7 +1,7 @@
--- Flat lists of candidates: what is refused of them, and the table that changes no byte. Definitions only.
+-- Flat lists of candidates: what is refused of them. Definitions only.
 -- Written from document 01, "Bounds and replies": "Lookup lists 1..65,536", refusals 3, 4 and 6, "The lowest number that applies is given."
-use Prim.Native.Nat.{ℕ, zero, suc, _*_, _/_, _%_}
-use mathlib.Core.List.{List, [], _∷_, _++_}
+use Prim.Native.Nat.{ℕ, _*_, _/_, _%_}
+use mathlib.Core.List.{List, [], _∷_}
 use mathlib.Core.Bool.{Bool, not, _&&_}
 use lib.Dec.{eqb, ltb}
 use lib.ListN.{length, getD}
@@ -33,14 +33,3 @@ listReplies reduced normalized oklab =
 -- the number of a list: 0 where it is accepted
 unfoldable pub listNumber : List ℕ → List ℕ → List Float → ℕ
 listNumber reduced normalized oklab = firstReply (listReplies reduced normalized oklab)
-
--- ---- bytes that stand for themselves
-
--- the numbers below n
-abbrev pub numbers : ℕ → List ℕ
-numbers zero = []
-numbers (suc n) = numbers n ++ n ∷ []
-
--- the table that changes no byte (proofs/ListLaws)
-unfoldable pub identity : List ℕ
-identity = numbers 256

@@ -12,9 +12,10 @@ use Rattle.lists.specs.Least.{leastOf, Least}
 use Rattle.color.specs.declared.NormalizedColor.{NormalizedColor}
 use Rattle.color.specs.declared.Oklab.{Oklab}
 use Rattle.mixing.specs.Lerp.{shareOf, between, mixResidual}
+use Rattle.mixing.specs.Widths.{clampWidth}
 use Rattle.shortlist.specs.Candidates.{Candidates}
 use Rattle.shortlist.specs.Nearest.{distances, nearestOf}
-use Rattle.shortlist.specs.Shortlist.{shortlistOf}
+use Rattle.shortlist.specs.Shortlist.{shortlistOf, Shortlist}
 use Rattle.lookup.specs.declared.Two.{Two}
 use Rattle.lookup.specs.declared.Best.{Best}
 use Rattle.lookup.specs.declared.Second.{Second}
@@ -40,7 +41,8 @@ secondOf p e ks = secondIn e (those p ks) ks
 
 -- s is the second, of those that pass and of the whole list: what `secondIn` is, and all that it is (proofs/SecondLaws)
 abbrev pub IsSecondIn : (ℕ → Float) → List ℕ → List ℕ → Second → Type 0
-IsSecondIn e (k ∷ passing) ks s = (r : ℕ) × Least lt (λ (j : ℕ). e (getD (k ∷ passing) j 0)) (length (k ∷ passing)) r × (s ≡ At (getD (k ∷ passing) r 0))
+IsSecondIn e (k ∷ passing) ks s =
+    (r : ℕ) × Least lt (λ (j : ℕ). e (getD (k ∷ passing) j 0)) (length (k ∷ passing)) r × (s ≡ At (getD (k ∷ passing) r 0))
 IsSecondIn e [] (k ∷ ks) s = s ≡ At k
 IsSecondIn e [] [] s = s ≡ Nothing
 
@@ -51,13 +53,27 @@ mixable normalized a c k = between (shareOf (normalized a) (normalized k) c)
 abbrev pub mixError : (ℕ → NormalizedColor) → ℕ → NormalizedColor → ℕ → Float
 mixError normalized a c k = mixResidual (normalized a) (normalized k) (shareOf (normalized a) (normalized k) c) c
 
--- the second beside entry a
+-- the second beside entry a, of a shortlist
+abbrev pub secondBeside : (ℕ → NormalizedColor) → ℕ → NormalizedColor → List ℕ → Second
+secondBeside normalized a c ks = secondOf (mixable normalized a c) (mixError normalized a c) ks
+
 abbrev pub secondTo : Candidates → ℕ → NormalizedColor → ℕ → Second
-secondTo cs width c a = secondOf (mixable (cs .normalized) a c) (mixError (cs .normalized) a c) (shortlistOf (distances (cs .oklab a) (cs .oklab)) a (cs .count) width)
+secondTo cs width c a = secondBeside (cs .normalized) a c (shortlistOf (distances (cs .oklab a) (cs .oklab)) a (cs .count) width)
 
 -- the nearest and the second, of a colour c that is o in Oklab
 unfoldable pub nearestTwoOf : Candidates → ℕ → Oklab → NormalizedColor → Two
 nearestTwoOf cs width o c = record { first = nearestOf cs o; second = secondTo cs width c (nearestOf cs o) }
+
+-- ---- what the nearest two are
+
+-- the first is the first of the least distances. Of its shortlist, the width nearest of the others, the second is, among those whose unclamped `lerp` is
+-- from 0 to 1, the first of the least residuals; where there is none such, the shortlist's first; and where the list has one entry alone, nothing.
+-- What `nearestTwoOf` is, and all that it is (proofs/TwoLaws)
+pub record NearestTwo (cs : Candidates) (width : ℕ) (o : Oklab) (c : NormalizedColor) (t : Two) : Type 0 where
+  pub nearest : Least lt (distances o (cs .oklab)) (cs .count) (t .first)
+  pub others : List ℕ
+  pub shortlist : Shortlist (distances (cs .oklab (t .first)) (cs .oklab)) (t .first) (cs .count) (clampWidth width) others
+  pub beside : IsSecondIn (mixError (cs .normalized) (t .first) c) (those (mixable (cs .normalized) (t .first) c) others) others (t .second)
 
 -- ---- how the code holds the best so far
 
@@ -66,9 +82,14 @@ abbrev pub Held : (ℕ → Float) → Best → List ℕ → Type 0
 Held e best [] = best .found ≡ 0
 Held e best (k ∷ ks) = (best .found ≡ 1) × (best .position ≡ leastAmong e (k ∷ ks)) × (best .error ≡ e (leastAmong e (k ∷ ks)))
 
+-- best is that of the entries of ks that mix with entry a, if one does
+abbrev pub BestBeside : (ℕ → NormalizedColor) → ℕ → NormalizedColor → List ℕ → Best → Type 0
+BestBeside normalized a c ks best = Held (mixError normalized a c) best (those (mixable normalized a c) ks)
+
 -- k with its error, where it mixes, and there is no best yet or its error is below the best's
 unfoldable pub improved : Best → ℕ → Bool → Float → Best
-improved best k mixes error = cond (mixes && (eqb (best .found) 0 || lt error (best .error))) (record { found = 1; error = error; position = k }) best
+improved best k mixes error =
+    cond (mixes && (eqb (best .found) 0 || lt error (best .error))) (record { found = 1; error = error; position = k }) best
 
 -- entry k's turn: it counts where its share is from 0 to 1
 unfoldable pub weighed : Best → ℕ → NormalizedColor → NormalizedColor → NormalizedColor → Best

@@ -1,282 +1,78 @@
-// Lists that carry their own normalised bytes: these go to the functions over a scale table with one that changes no byte.
+// The lookups over flat lists that are accepted. Such a list carries its own normalised bytes.
+use super::Best;
 use super::Bracket;
+use super::BracketAt;
+use super::Second;
 use super::Two;
 use super::brackets::bracket_at;
-use super::brackets::bracket_positions;
-use super::seconds::nearest_two_positions;
+use super::brackets::bracket_with;
+use super::seconds::second_by;
+use super::seconds::weigh;
 use color::NormalizedColor;
 use color::Oklab;
+use color::rgba_at;
+use shortlist::near::nearest_position;
+use shortlist::shortlist;
 ghost use mathlib.Core.Path.{_≡_};
+ghost use Prim.Native.Nat.{ℕ, _+_, _*_, _<_, _≤_};
 ghost use lib.Dec.{T};
+ghost use lib.ListN.{length, getD, take};
+ghost use Rattle.color.specs.Color.{normalizedAt};
 ghost use Rattle.color.specs.Oklab.{allInRange};
 ghost use Rattle.shortlist.specs.Candidates.{flat};
-ghost use Rattle.lookup.specs.Second.{nearestTwoOf};
-ghost use Rattle.lookup.specs.Bracket.{bracketOf};
-ghost use Rattle.lookup.specs.Lists.{listNumber, identity};
+ghost use Rattle.lookup.specs.Second.{secondBeside, BestBeside, nearestTwoOf};
+ghost use Rattle.lookup.specs.Bracket.{bracketAtOf, bracketOf};
+ghost use Rattle.lookup.specs.Lists.{listNumber};
 
-const IDENTITY: [u8; 256] = [
-    0,
-    1,
-    2,
-    3,
-    4,
-    5,
-    6,
-    7,
-    8,
-    9,
-    10,
-    11,
-    12,
-    13,
-    14,
-    15,
-    16,
-    17,
-    18,
-    19,
-    20,
-    21,
-    22,
-    23,
-    24,
-    25,
-    26,
-    27,
-    28,
-    29,
-    30,
-    31,
-    32,
-    33,
-    34,
-    35,
-    36,
-    37,
-    38,
-    39,
-    40,
-    41,
-    42,
-    43,
-    44,
-    45,
-    46,
-    47,
-    48,
-    49,
-    50,
-    51,
-    52,
-    53,
-    54,
-    55,
-    56,
-    57,
-    58,
-    59,
-    60,
-    61,
-    62,
-    63,
-    64,
-    65,
-    66,
-    67,
-    68,
-    69,
-    70,
-    71,
-    72,
-    73,
-    74,
-    75,
-    76,
-    77,
-    78,
-    79,
-    80,
-    81,
-    82,
-    83,
-    84,
-    85,
-    86,
-    87,
-    88,
-    89,
-    90,
-    91,
-    92,
-    93,
-    94,
-    95,
-    96,
-    97,
-    98,
-    99,
-    100,
-    101,
-    102,
-    103,
-    104,
-    105,
-    106,
-    107,
-    108,
-    109,
-    110,
-    111,
-    112,
-    113,
-    114,
-    115,
-    116,
-    117,
-    118,
-    119,
-    120,
-    121,
-    122,
-    123,
-    124,
-    125,
-    126,
-    127,
-    128,
-    129,
-    130,
-    131,
-    132,
-    133,
-    134,
-    135,
-    136,
-    137,
-    138,
-    139,
-    140,
-    141,
-    142,
-    143,
-    144,
-    145,
-    146,
-    147,
-    148,
-    149,
-    150,
-    151,
-    152,
-    153,
-    154,
-    155,
-    156,
-    157,
-    158,
-    159,
-    160,
-    161,
-    162,
-    163,
-    164,
-    165,
-    166,
-    167,
-    168,
-    169,
-    170,
-    171,
-    172,
-    173,
-    174,
-    175,
-    176,
-    177,
-    178,
-    179,
-    180,
-    181,
-    182,
-    183,
-    184,
-    185,
-    186,
-    187,
-    188,
-    189,
-    190,
-    191,
-    192,
-    193,
-    194,
-    195,
-    196,
-    197,
-    198,
-    199,
-    200,
-    201,
-    202,
-    203,
-    204,
-    205,
-    206,
-    207,
-    208,
-    209,
-    210,
-    211,
-    212,
-    213,
-    214,
-    215,
-    216,
-    217,
-    218,
-    219,
-    220,
-    221,
-    222,
-    223,
-    224,
-    225,
-    226,
-    227,
-    228,
-    229,
-    230,
-    231,
-    232,
-    233,
-    234,
-    235,
-    236,
-    237,
-    238,
-    239,
-    240,
-    241,
-    242,
-    243,
-    244,
-    245,
-    246,
-    247,
-    248,
-    249,
-    250,
-    251,
-    252,
-    253,
-    254,
-    255,
-];
-
-fn identity_table() -> [u8; 256]
-    ensures { λ r. ⌜ r ≡ identity ⌝ }
+// Entry k of a list of normalised bytes. No public call: the caller sees to the length.
+fn normal_at(normalized: &[u8], k: usize) -> NormalizedColor
+    requires { ⌜ 4 * k + 3 < length (now normalized) ⌝ }
+    ensures { λ r. ⌜ r ≡ normalizedAt (now (normalized .entry)) k ⌝ }
 {
-    IDENTITY
+    NormalizedColor(rgba_at(normalized, k))
+}
+
+// The best of the shortlist's entries beside entry a, if one of them mixes.
+fn best_of(
+    normalized: &[u8],
+    a: usize,
+    positions: &[usize; 16],
+    count: usize,
+    color: NormalizedColor,
+) -> Best
+    requires { ⌜ (4 * a + 3 < length (now normalized)) × (count ≤ 16) × (length (now positions) ≡ 16)
+        × ((i : ℕ) → i < count → 4 * getD (now positions) i 0 + 3 < length (now normalized)) ⌝ }
+    ensures { λ r. ⌜ BestBeside (normalizedAt (now (normalized .entry))) a color (take count (now (positions .entry))) r ⌝ }
+{
+    let c1 = normal_at(normalized, a);
+    let mut best = Best::none();
+    let mut i = 0;
+    while i < count {
+        let k = positions[i];
+        best = weigh(best, k, c1, normal_at(normalized, k), color);
+        i += 1;
+    }
+    best
+}
+
+// Among the shortlist's entries that mix with entry a to the colour, the one with the smallest error, the first of equals;
+// if none does, the shortlist's first. No public call: the caller sees to lengths and positions.
+fn second_of(
+    normalized: &[u8],
+    a: usize,
+    positions: &[usize; 16],
+    count: usize,
+    color: NormalizedColor,
+) -> Second
+    requires { ⌜ (4 * a + 3 < length (now normalized)) × (count ≤ 16) × (length (now positions) ≡ 16)
+        × ((i : ℕ) → i < count → 4 * getD (now positions) i 0 + 3 < length (now normalized)) ⌝ }
+    ensures { λ r. ⌜ r ≡ secondBeside (normalizedAt (now (normalized .entry))) a color (take count (now (positions .entry))) ⌝ }
+{
+    second_by(
+        best_of(normalized, a, positions, count, color),
+        positions,
+        count,
+    )
 }
 
 // The nearest two. No public call: the caller sees to the lists and the range.
@@ -291,17 +87,39 @@ pub fn two_of(
     requires { ⌜ (listNumber (now reduced) (now normalized) (now oklab) ≡ 0) × T (allInRange o) ⌝ }
     ensures { λ r. ⌜ r ≡ nearestTwoOf (flat (now (reduced .entry)) (now (normalized .entry)) (now (oklab .entry))) width o color ⌝ }
 {
-    let scale = identity_table();
-    nearest_two_positions(
-        oklab,
-        normalized,
-        &scale,
-        reduced.len() / 4,
-        width,
-        o,
-        color,
-        0,
-    )
+    let count = reduced.len() / 4;
+    let a = nearest_position(oklab, count, o, 0);
+    let mut positions = [0usize; 16];
+    let mut far = [0.0f32; 16];
+    let found = shortlist(oklab, count, a, width, &mut positions, &mut far);
+    let second = second_of(normalized, a, &positions, found, color);
+    Two {
+        first: a,
+        second: second,
+    }
+}
+
+// The positions of the bracket, and its ratio. No public call: the caller sees to the lists and the range.
+fn bracket_positions(
+    reduced: &[u8],
+    normalized: &[u8],
+    oklab: &[f32],
+    width: u64,
+    o: Oklab,
+    color: NormalizedColor,
+) -> BracketAt
+    requires { ⌜ (listNumber (now reduced) (now normalized) (now oklab) ≡ 0) × T (allInRange o) ⌝ }
+    ensures { λ r. ⌜ r ≡ bracketAtOf (flat (now (reduced .entry)) (now (normalized .entry)) (now (oklab .entry))) width o color ⌝ }
+{
+    let two = two_of(reduced, normalized, oklab, width, o, color);
+    let a = two.first;
+    let second = two.second;
+    let Second::At(b) = second else {
+        return BracketAt::solid(a);
+    };
+    let c1 = normal_at(normalized, a);
+    let c2 = normal_at(normalized, b);
+    bracket_with(oklab, a, b, c1, c2, color)
 }
 
 // The bracket. No public call: the caller sees to the lists and the range.
@@ -316,16 +134,6 @@ pub fn bracket_of(
     requires { ⌜ (listNumber (now reduced) (now normalized) (now oklab) ≡ 0) × T (allInRange o) ⌝ }
     ensures { λ r. ⌜ r ≡ bracketOf (flat (now (reduced .entry)) (now (normalized .entry)) (now (oklab .entry))) width o color ⌝ }
 {
-    let scale = identity_table();
-    let at = bracket_positions(
-        oklab,
-        normalized,
-        &scale,
-        reduced.len() / 4,
-        width,
-        o,
-        color,
-        0,
-    );
+    let at = bracket_positions(reduced, normalized, oklab, width, o, color);
     bracket_at(reduced, at)
 }

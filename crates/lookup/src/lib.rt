@@ -1,8 +1,9 @@
-// Choosing colours: the nearest candidate, the nearest two, the ordered bracket and what is picked of it, over flat lists.
-// Names and order are those of src/dither.rs; the functions of the modules answer positions.
+// Choosing colours: the nearest candidate, the nearest two, the ordered bracket and what is picked of it, over flat lists of
+// candidates. `pick` has the name that src/dither.rs gives it; the calls over flat lists are the base of the lookups over
+// records, which are in crate `records` and have its names. The functions of the modules answer positions.
 pub mod brackets;
-pub mod checks;
-pub mod flat;
+mod checks;
+mod flat;
 pub mod seconds;
 
 use checks::list_refusal;
@@ -17,8 +18,8 @@ use patterns::ordered_threshold;
 use shortlist::near::nearest_position;
 ghost use mathlib.Core.Path.{_≡_};
 ghost use Rattle.lookup.specs.Lists.{countFits};
-ghost use Rattle.lookup.specs.Bracket.{solidAt, pickAt, pickOf};
-ghost use Rattle.lookup.specs.Answers.{nearestAnswer, nearestTwoAnswer, bracketAnswer};
+ghost use Rattle.lookup.specs.Bracket.{solidAt, pickAt};
+ghost use Rattle.lookup.specs.Answers.{FlatNearest, FlatTwo, FlatBracket, PickedAt};
 
 // From 1 to 65,536 entries: what a lookup takes.
 pub fn count_fits(count: usize) -> bool
@@ -47,6 +48,19 @@ pub struct Best {
     pub found: u32,
     pub error: f32,
     pub position: usize,
+}
+
+impl Best {
+    // Nothing yet.
+    pub fn none() -> Self
+        ensures { λ r. ⌜ r .found ≡ 0 ⌝ }
+    {
+        Best {
+            found: 0,
+            error: 0.0,
+            position: 0,
+        }
+    }
 }
 
 // A bracket by positions.
@@ -116,7 +130,7 @@ pub fn pick_at(bracket: Bracket, threshold: f32) -> ReducedColor
 
 // The colour for column x and row y; 1 for a kind above 10, 9 for one that has no matrix, also where the colours are equal.
 pub fn pick(bracket: Bracket, kind: u32, x: u32, y: u32) -> Picked
-    ensures { λ r. ⌜ r ≡ pickOf bracket kind x y ⌝ }
+    ensures { λ r. ⌜ PickedAt bracket kind x y r ⌝ }
 {
     match ordered_threshold(kind, x, y) {
         Thresholded::At(threshold) => Picked::Color(pick_at(bracket, threshold)),
@@ -134,7 +148,7 @@ pub fn flat_nearest(
     oklab: &[f32],
     color: NormalizedColor,
 ) -> Found
-    ensures { λ r. ⌜ r ≡ nearestAnswer (now (reduced .entry)) (now (normalized .entry)) (now (oklab .entry)) color ⌝ }
+    ensures { λ r. ⌜ FlatNearest (now (reduced .entry)) (now (normalized .entry)) (now (oklab .entry)) color r ⌝ }
 {
     let refusal = list_refusal(reduced, normalized, oklab);
     if refusal != 0 {
@@ -151,7 +165,7 @@ pub fn flat_nearest_two(
     color: NormalizedColor,
     width: u64,
 ) -> FoundTwo
-    ensures { λ r. ⌜ r ≡ nearestTwoAnswer (now (reduced .entry)) (now (normalized .entry)) (now (oklab .entry)) color width ⌝ }
+    ensures { λ r. ⌜ FlatTwo (now (reduced .entry)) (now (normalized .entry)) (now (oklab .entry)) color width r ⌝ }
 {
     let refusal = list_refusal(reduced, normalized, oklab);
     if refusal != 0 {
@@ -168,7 +182,7 @@ pub fn flat_ordered_bracket(
     color: NormalizedColor,
     width: u64,
 ) -> FoundBracket
-    ensures { λ r. ⌜ r ≡ bracketAnswer (now (reduced .entry)) (now (normalized .entry)) (now (oklab .entry)) color width ⌝ }
+    ensures { λ r. ⌜ FlatBracket (now (reduced .entry)) (now (normalized .entry)) (now (oklab .entry)) color width r ⌝ }
 {
     let refusal = list_refusal(reduced, normalized, oklab);
     if refusal != 0 {

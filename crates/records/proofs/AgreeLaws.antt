@@ -3,24 +3,19 @@
 use mathlib.Core.Path.{_≡_, refl, sym, ap, _∙_}
 use mathlib.Core.List.{List}
 use Prim.Native.Nat.{ℕ, zero, suc}
-use lib.Ieee.{Float}
-use Rattle.replies.specs.Replies.{after}
 use Rattle.replies.proofs.AnswerLaws.{answered}
 use Rattle.color.specs.declared.CandidateColor.{CandidateColor}
 use Rattle.color.specs.declared.NormalizedColor.{NormalizedColor}
 use Rattle.conversion.specs.Oklab.{toOklab}
-use Rattle.shortlist.specs.Candidates.{Candidates, flat}
 use Rattle.shortlist.specs.Nearest.{nearestOf}
 use Rattle.lookup.specs.declared.Found.{Found}
-use Rattle.lookup.specs.declared.Found.the-variants as found
 use Rattle.lookup.specs.declared.FoundTwo.{FoundTwo}
-use Rattle.lookup.specs.declared.FoundTwo.the-variants as two
 use Rattle.lookup.specs.declared.FoundBracket.{FoundBracket}
 use Rattle.lookup.specs.declared.FoundBracket.the-variants as bracket
 use Rattle.lookup.specs.Second.{nearestTwoOf}
 use Rattle.lookup.specs.Bracket.{bracketOf}
 use Rattle.lookup.specs.Lists.{listNumber}
-use Rattle.lookup.specs.Answers.{nearestAnswer, nearestTwoAnswer, bracketAnswer}
+use Rattle.lookup.specs.Answers.{nearestAnswer, nearestTwoAnswer, bracketAnswer, FlatNearest, FlatTwo, FlatBracket}
 use Rattle.records.specs.declared.FoundRecord.{FoundRecord}
 use Rattle.records.specs.declared.FoundRecord.the-variants as one
 use Rattle.records.specs.declared.FoundRecords.{FoundRecords}
@@ -29,44 +24,31 @@ use Rattle.records.specs.Answers.{nearestRecordAnswer, recordsAt, neares
 use Rattle.records.specs.Answers.{NearestRecord, NearestTwoRecords, RecordsBracket, foundIn, foundTwoIn}
 use Rattle.records.proofs.FlatLaws.{flat-is, number-agrees}
 
--- what the flat lookups promise
-abbrev pub FlatNearest : List ℕ → List ℕ → List Float → NormalizedColor → Found → Type 0
-FlatNearest reduced normalized oklab color x = x ≡ nearestAnswer reduced normalized oklab color
-
-abbrev pub FlatTwo : List ℕ → List ℕ → List Float → NormalizedColor → ℕ → FoundTwo → Type 0
-FlatTwo reduced normalized oklab color width x = x ≡ nearestTwoAnswer reduced normalized oklab color width
-
-abbrev pub FlatBracket : List ℕ → List ℕ → List Float → NormalizedColor → ℕ → FoundBracket → Type 0
-FlatBracket reduced normalized oklab color width x = x ≡ bracketAnswer reduced normalized oklab color width
-
 module _ (list : List CandidateColor) (color : NormalizedColor) where
-  abbrev apart : Candidates
-  apart = flat (reducedBytes list) (normalizedBytes list) (oklabFloats list)
-
   abbrev n : ℕ
   n = listNumber (reducedBytes list) (normalizedBytes list) (oklabFloats list)
 
   -- ---- with the same number the same is answered
-  nearest-with : (n : ℕ) → foundIn list (after n (found.At (nearestOf apart (toOklab color))) (found.Refused n)) ≡ nearestRecordAnswer list color n
+  nearest-with : (n : ℕ) → foundIn list (nearestAnswer (reducedBytes list) (normalizedBytes list) (oklabFloats list) color n) ≡ nearestRecordAnswer list color n
   nearest-with zero = λ i. one.Chosen (recordAt list (nearestOf (flat-is list i) (toOklab color)))
   nearest-with (suc n) = refl
 
   module _ (width : ℕ) where
     two-with : (n : ℕ)
-        → foundTwoIn list (after n (two.At (nearestTwoOf apart width (toOklab color) color)) (two.Refused n)) ≡ nearestTwoRecordsAnswer list color width n
+        → foundTwoIn list (nearestTwoAnswer (reducedBytes list) (normalizedBytes list) (oklabFloats list) color width n) ≡ nearestTwoRecordsAnswer list color width n
     unfolding nearestTwoOf
     two-with zero = λ i. (let t = nearestTwoOf (flat-is list i) width (toOklab color) color in recordsAt list (t .first) (t .second))
     two-with (suc n) = refl
 
-    bracket-with : (n : ℕ) → after n (bracket.Of (bracketOf apart width (toOklab color) color)) (bracket.Refused n) ≡ recordsBracketAnswer list color width n
+    bracket-with : (n : ℕ) → bracketAnswer (reducedBytes list) (normalizedBytes list) (oklabFloats list) color width n ≡ recordsBracketAnswer list color width n
     bracket-with zero = λ i. bracket.Of (bracketOf (flat-is list i) width (toOklab color) color)
     bracket-with (suc n) = refl
 
   -- ---- and the number is the same: what is answered of the list
   pub nearest-flat : {x : Found} → FlatNearest (reducedBytes list) (normalizedBytes list) (oklabFloats list) color x
       → foundIn list x ≡ nearestRecordAnswer list color (recordsNumber list)
-  unfolding nearestAnswer
-  nearest-flat h = ap (foundIn list) h ∙ nearest-with n ∙ ap (nearestRecordAnswer list color) (number-agrees list)
+  unfolding listNumber
+  nearest-flat h = ap (foundIn list) (answered _ _ _ h) ∙ nearest-with n ∙ ap (nearestRecordAnswer list color) (number-agrees list)
 
   pub nearest-agrees : {x : Found} {r : FoundRecord} → FlatNearest (reducedBytes list) (normalizedBytes list) (oklabFloats list) color x
       → NearestRecord list color r → foundIn list x ≡ r
@@ -76,8 +58,8 @@ module _ (list : List CandidateColor) (color : NormalizedColor) where
   module _ (width : ℕ) where
     pub two-flat : {x : FoundTwo} → FlatTwo (reducedBytes list) (normalizedBytes list) (oklabFloats list) color width x
         → foundTwoIn list x ≡ nearestTwoRecordsAnswer list color width (recordsNumber list)
-    unfolding nearestTwoAnswer
-    two-flat h = ap (foundTwoIn list) h ∙ two-with width n ∙ ap (nearestTwoRecordsAnswer list color width) (number-agrees list)
+    unfolding listNumber
+    two-flat h = ap (foundTwoIn list) (answered _ _ _ h) ∙ two-with width n ∙ ap (nearestTwoRecordsAnswer list color width) (number-agrees list)
 
     pub two-agrees : {x : FoundTwo} {r : FoundRecords} → FlatTwo (reducedBytes list) (normalizedBytes list) (oklabFloats list) color width x
         → NearestTwoRecords list color width r → foundTwoIn list x ≡ r
@@ -86,8 +68,8 @@ module _ (list : List CandidateColor) (color : NormalizedColor) where
 
     pub bracket-flat : {x : FoundBracket} → FlatBracket (reducedBytes list) (normalizedBytes list) (oklabFloats list) color width x
         → x ≡ recordsBracketAnswer list color width (recordsNumber list)
-    unfolding bracketAnswer
-    bracket-flat h = h ∙ bracket-with width n ∙ ap (recordsBracketAnswer list color width) (number-agrees list)
+    unfolding listNumber
+    bracket-flat h = answered _ _ _ h ∙ bracket-with width n ∙ ap (recordsBracketAnswer list color width) (number-agrees list)
 
     pub bracket-agrees : {x r : FoundBracket} → FlatBracket (reducedBytes list) (normalizedBytes list) (oklabFloats list) color width x
         → RecordsBracket list color width r → x ≡ r

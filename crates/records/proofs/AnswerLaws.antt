@@ -32,12 +32,12 @@ use Rattle.lookup.specs.declared.FoundBracket.{FoundBracket}
 use Rattle.lookup.specs.declared.Second.{Second}
 use Rattle.lookup.specs.declared.Second.the-variants.{At, Nothing}
 use Rattle.lookup.specs.declared.FoundBracket.the-variants as bracket
-use Rattle.lookup.specs.Lists.{countFits, listNumber}
+use Rattle.lookup.specs.Lists.{countFits}
 use Rattle.lookup.specs.Second.{nearestTwoOf}
 use Rattle.lookup.specs.Bracket.{bracketOf}
-use Rattle.lookup.specs.Answers.{numberOfTwo, numberOfBracket}
-use Rattle.lookup.proofs.AnswerLaws as Flat
-use Rattle.lookup.proofs.ListLaws as Flat′
+use Rattle.lookup.specs.Answers.{numberOfBracket, FlatTwo, FlatBracket}
+use Rattle.lookup.proofs.AnswerLaws.{two-given}
+use Rattle.lookup.proofs.ListLaws as Flat
 use Rattle.lookup.proofs.TwoLaws.{first-entry, second-entry}
 use Rattle.records.specs.declared.passes.Entry.{Entry}
 use Rattle.records.specs.declared.passes.Pass.{Pass}
@@ -54,7 +54,7 @@ use Rattle.records.proofs.ListLaws.{Accepted, accepted, all-ranged}
 use Rattle.shortlist.proofs.MapLaws.{map-take, map-map}
 use Rattle.records.proofs.KeepingLaws.{noEntry, nearest-kept}
 use Rattle.records.proofs.FlatLaws.{laid-record}
-use Rattle.records.proofs.AgreeLaws.{FlatTwo, FlatBracket, two-flat, bracket-flat}
+use Rattle.records.proofs.AgreeLaws.{two-flat, bracket-flat}
 use Rattle.records.proofs.ShortLaws.{renamed, standing, shortened, standing-inside, first-short, second-short, bracket-short}
 
 -- ---- the number of a list is the lowest that applies
@@ -263,22 +263,15 @@ module _ {s : Short} (R : Roomy s) where
   fronts = (sym (length-take-le _ _ (fits .0)), sym (length-take-le _ _ (fits .1)), sym (length-take-le _ _ (fits .2)))
 
 -- ---- the flat answer over the short list
-abbrev twoOr : Two → FoundTwo → Two
-twoOr u (two.At t) = t
-twoOr u (two.Refused n) = u
-
 -- its positions are entries
 pub two-inside : (rs ns : List ℕ) (os : List Float) (color : NormalizedColor) (width : ℕ) (x : FoundTwo) (t : Two) → FlatTwo rs ns os color width x
     → x ≡ two.At t
     → (t .first < length rs / 4) × ((b : ℕ) → t .second ≡ At b → b < length rs / 4)
 two-inside rs ns os color width x t p q =
-    let e = sym p ∙ q in
-    let z = sym (Flat.nearest-two-number rs ns os color width) ∙ ap numberOfTwo e in
-    let A = Flat′.accepted rs ns os z in
+    let g = two-given rs ns os color width p q in
+    let A = Flat.accepted rs ns os (g .0) in
     let cs = flat rs ns os in
-    let n : Two = nearestTwoOf cs width (toOklab color) color in
-    let s : t ≡ n = sym (ap (twoOr t) (Flat.two-accepted rs ns os color (listNumber rs ns os) refl width z (toOklab color) n refl refl ∙ e)) in
-    (first-entry cs width (toOklab color) color t s (A .positive), second-entry cs width (toOklab color) color t s (A .positive) (A .ranged .range))
+    (first-entry cs width (toOklab color) color t (g .1) (A .positive), second-entry cs width (toOklab color) color t (g .1) (A .positive) (A .ranged .range))
 
 -- of which there are at most 17
 pub two-few : (color : NormalizedColor) (width : ℕ) {s : Short} → Roomy s → {x : FoundTwo} {t : Two}

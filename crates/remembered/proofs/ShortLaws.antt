@@ -12,7 +12,7 @@ use lib.ListN.{length, getD, set, take, length-set, length-replicate, replicate,
 use lib.Seq.{getD-set-same, getD-set-other}
 use Rattle.color.specs.declared.NormalizedColor.{NormalizedColor}
 use Rattle.lookup.specs.declared.Two.{Two}
-use Rattle.remembered.specs.Table.{Kept}
+use Rattle.remembered.specs.Table.{memorySize, TableOf}
 use Rattle.lists.specs.Order.{In}
 use Rattle.color.specs.declared.Oklab.{Oklab}
 use Rattle.color.specs.Oklab.{allInRange}
@@ -22,7 +22,7 @@ use Rattle.shortlist.specs.Shortlist.{ranked, Shortlist}
 use Rattle.shortlist.proofs.NearestLaws.{distances-plain}
 use Rattle.shortlist.proofs.ArrayLaws.{clamp-high}
 use Rattle.shortlist.proofs.ShortlistLaws.{shortlist-is}
-use Rattle.remembered.specs.Shorts.{shortOf, digitOf, placed, Begins, Shorts, CopiedIn, CopiedOut, Packed}
+use Rattle.remembered.specs.Shorts.{shortlistAt, digitOf, placed, Begins, RowsOf, CopiedIn, CopiedOut, Packed}
 
 -- below n + 1, and not n
 below : (i n : ℕ) → i < n + 1 → (i ≡ n → ⊥) → i < n
@@ -32,7 +32,7 @@ below i n l d = ⊎-elim (λ (e : i ≡ n). absurd (d e)) (λ (h : i < n). h) (e
 quarter : (i : ℕ) → 4 * (i / 4) + i % 4 ≡ i
 quarter i = omega arith
 
-pub in-none : (positions memory : List ℕ) (p : ℕ) → length memory ≡ 897 → CopiedIn positions p 0 memory memory
+pub in-none : (positions memory : List ℕ) (p : ℕ) → length memory ≡ memorySize → CopiedIn positions p 0 memory memory
 in-none positions memory p l = record { room = l; front = λ i h. absurd (omega arith); rest = λ q h. refl }
 
 div-one : (x : ℕ) → x / 1 ≡ x
@@ -66,11 +66,13 @@ word-of A B C D a b c d x e =
 pub packed-is : (a b c d : ℕ) → Packed a b c d (a % 65536 + b % 65536 * 65536 + (c % 65536 + d % 65536 * 65536) * 4294967296)
 unfolding digitOf
 packed-is a b c d =
-    let w = word-of (a % 65536) (b % 65536) (c % 65536) (d % 65536) (mod-lt a (lit< tt)) (mod-lt b (lit< tt)) (mod-lt c (lit< tt)) (mod-lt d (lit< tt)) _ refl in
+    let w =
+    word-of (a % 65536) (b % 65536) (c % 65536) (d % 65536) (mod-lt a (lit< tt)) (mod-lt b (lit< tt)) (mod-lt c (lit< tt)) (mod-lt d (lit< tt)) _ refl in
     record { first = w .0; second = w .1; third = w .2; fourth = w .3 }
 
 -- the four of a word, by their number
-four : (positions : List ℕ) (n x : ℕ) → Packed (getD positions (4 * n) 0) (getD positions (4 * n + 1) 0) (getD positions (4 * n + 2) 0) (getD positions (4 * n + 3) 0) x
+four : (positions : List ℕ) (n x : ℕ)
+    → Packed (getD positions (4 * n) 0) (getD positions (4 * n + 1) 0) (getD positions (4 * n + 2) 0) (getD positions (4 * n + 3) 0) x
     → (j : ℕ) → j < 4 → digitOf x j ≡ getD positions (4 * n + j) 0 % 65536
 four positions n x k zero l = k .first ∙ ap (λ (i : ℕ). getD positions i 0 % 65536) (sym (add-zero (4 * n)))
 four positions n x k (suc zero) l = k .second
@@ -78,7 +80,7 @@ four positions n x k (suc (suc zero)) l = k .third
 four positions n x k (suc (suc (suc zero))) l = k .fourth
 four positions n x k (suc (suc (suc (suc j)))) l = absurd (omega arith)
 
-pub in-more : {positions memory was : List ℕ} {p n x : ℕ} → CopiedIn positions p n was memory → p + n < 897
+pub in-more : {positions memory was : List ℕ} {p n x : ℕ} → CopiedIn positions p n was memory → p + n < memorySize
     → Packed (getD positions (4 * n) 0) (getD positions (4 * n + 1) 0) (getD positions (4 * n + 2) 0) (getD positions (4 * n + 3) 0) x
     → CopiedIn positions p (n + 1) was (set memory (p + n) x)
 in-more {positions} {memory} {was} {p} {n} {x} c h k = record { room = simp length-set (c .room); front = λ i l. go i l (eqb (i / 4) n) refl; rest = away }
@@ -106,7 +108,8 @@ in-more {positions} {memory} {was} {p} {n} {x} c h k = record { room = simp leng
 pub out-none : (memory positions : List ℕ) (p : ℕ) → length positions ≡ 16 → CopiedOut memory p 0 positions
 out-none memory positions p l = record { room = l; front = λ i h. absurd (not-suc-le-zero h) }
 
-pub out-more : {memory positions : List ℕ} {p n x : ℕ} → CopiedOut memory p n positions → n < 16 → x ≡ placed memory p n → CopiedOut memory p (n + 1) (set positions n x)
+pub out-more : {memory positions : List ℕ} {p n x : ℕ} → CopiedOut memory p n positions → n < 16 → x ≡ placed memory p n
+    → CopiedOut memory p (n + 1) (set positions n x)
 out-more {memory} {positions} {p} {n} {x} c h e = record { room = simp length-set (c .room); front = λ i l. go i l (eqb i n) refl }
   where
     go : (i : ℕ) → i < n + 1 → (t : Bool) → eqb i n ≡ t → getD (set positions n x) i 0 ≡ placed memory p i
@@ -155,22 +158,25 @@ apart j r q d h = go (ltb j r) refl
         ⊎-elim (λ (e : r ≡ j). absurd (d (sym e))) (λ (k : r < j). inr (omega arith)) (eq-or-lt-of-le l)
 
 -- the table before the rows is left alone
-pub kept-rows : (f : NormalizedColor → Two) (was memory : List ℕ) → Kept f was → length memory ≡ 897 → ((q : ℕ) → q < 257 → getD memory q 0 ≡ getD was q 0) → Kept f memory
-kept-rows f was memory kept l same = record { room = l; right = λ j h. rw (same j (omega arith)) (kept .right j h) }
+pub table-rows : (f : NormalizedColor → Two) (was memory : List ℕ) → TableOf f was → length memory ≡ memorySize
+    → ((q : ℕ) → q < 257 → getD memory q 0 ≡ getD was q 0) → TableOf f memory
+table-rows f was memory kept l same = record { room = l; right = λ j h. rw (same j (omega arith)) (kept .right j h) }
 
-module _ (f : ℕ → List ℕ) (was : List ℕ) (shorts : Shorts f was) where
+module _ (f : ℕ → List ℕ) (was : List ℕ) (shorts : RowsOf f was) where
   -- and the rows by the table
-  pub shorts-table : (j w : ℕ) → j < 257 → Shorts f (set was j w)
-  shorts-table j w h = record {
+  pub rows-table : (j w : ℕ) → j < 257 → RowsOf f (set was j w)
+  rows-table j w h = record {
     room = simp length-set (shorts .room);
-    right = λ i a l e k b. ap (λ (x : ℕ). digitOf x (k % 4)) (other (258 + 5 * i + k / 4) (omega arith)) ∙ shorts .right i a l (sym (other (257 + 5 * i) (omega arith)) ∙ e) k b;
+    right = λ i a l e k b. ap (λ (x : ℕ). digitOf x (k % 4)) (other (258 + 5 * i + k / 4) (omega arith))
+        ∙ shorts .right i a l (sym (other (257 + 5 * i) (omega arith)) ∙ e) k b;
   }
     where
       other : (q : ℕ) → 257 ≤ q → getD (set was j w) q 0 ≡ getD was q 0
       other q g = let o : q ≡ j → ⊥ = λ e. absurd (omega arith) in rw getD-set-other
 
   -- entry a's shortlist in row r
-  module _ (short : (b : ℕ) → length (f b) ≤ 16) (a r m : ℕ) (positions memory : List ℕ) (row : r < 128) (copied : CopiedIn positions (257 + 5 * r + 1) 4 was memory)
+  module _ (short : (b : ℕ) → length (f b) ≤ 16) (a r m : ℕ) (positions memory : List ℕ) (row : r < 128)
+      (copied : CopiedIn positions (257 + 5 * r + 1) 4 was memory)
       (few : m ≤ 16) (low : (i : ℕ) → i < m → getD positions i 0 < 65536) (is : take m positions ≡ f a) where
     abbrev written : List ℕ
     written = set memory (257 + 5 * r) (a + 1)
@@ -196,11 +202,12 @@ module _ (f : ℕ → List ℕ) (was : List ℕ) (shorts : Shorts f was) where
         let o : 258 + 5 * r + i / 4 ≡ 257 + 5 * r → ⊥ = λ e. absurd (omega arith) in
         let at : 257 + 5 * r + 1 + i / 4 ≡ 258 + 5 * r + i / 4 = omega arith in
         let h : i < 4 * 4 = omega (arith, t .0) in
-        let front : digitOf (getD memory (258 + 5 * r + i / 4) 0) (i % 4) ≡ getD positions i 0 % 65536 = ap (λ (q : ℕ). digitOf (getD memory q 0) (i % 4)) (sym at) ∙ copied .front i h in
+        let front : digitOf (getD memory (258 + 5 * r + i / 4) 0) (i % 4) ≡ getD positions i 0 % 65536 =
+        ap (λ (q : ℕ). digitOf (getD memory q 0) (i % 4)) (sym at) ∙ copied .front i h in
         rw getD-set-other (front ∙ mod-eq-of-lt (low i (t .0)) ∙ t .1 ∙ ap (λ (ps : List ℕ). getD ps i 0) is)
 
-    pub shorts-more : Shorts f (set memory (257 + 5 * r) (a + 1))
-    shorts-more = record { room = simp length-set (copied .room); right = λ j b l. go j b l (eqb j r) refl }
+    pub rows-more : RowsOf f (set memory (257 + 5 * r) (a + 1))
+    rows-more = record { room = simp length-set (copied .room); right = λ j b l. go j b l (eqb j r) refl }
       where
         go : (j b : ℕ) → j < 128 → (t : Bool) → eqb j r ≡ t → getD written (257 + 5 * j) 0 ≡ b + 1 → Begins written (258 + 5 * j) (f b)
         go j b l true t e =
@@ -216,15 +223,18 @@ module _ (f : ℕ → List ℕ) (was : List ℕ) (shorts : Shorts f was) where
             let head : getD was (257 + 5 * j) 0 ≡ b + 1 = rw add-zero at (sym first) ∙ e in
             let at : 257 + 5 * j + (1 + i / 4) ≡ 258 + 5 * j + i / 4 = omega arith in
             let k : 1 + i / 4 < 5 = omega (arith, short b) in
-            let same : getD written (258 + 5 * j + i / 4) 0 ≡ getD was (258 + 5 * j + i / 4) 0 = subst (λ (q : ℕ). getD written q 0 ≡ getD was q 0) at (other j (1 + i / 4) d k) in
+            let same : getD written (258 + 5 * j + i / 4) 0 ≡ getD was (258 + 5 * j + i / 4) 0 =
+            subst (λ (q : ℕ). getD written q 0 ≡ getD was q 0) at (other j (1 + i / 4) d k) in
             ap (λ (x : ℕ). digitOf x (i % 4)) same ∙ shorts .right j b l head i h
 
 -- the same of a row that begins at word p
 module _ (p a m : ℕ) (positions was memory : List ℕ) (at : p ≡ 257 + 5 * (a % 128)) (copied : CopiedIn positions (p + 1) 4 was memory) where
-  pub row-more : (f : ℕ → List ℕ) → ((b : ℕ) → length (f b) ≤ 16) → Shorts f was → m ≤ 16 → ((i : ℕ) → i < m → getD positions i 0 < 65536) → take m positions ≡ f a → Shorts f (set memory p (a + 1))
+  pub row-more : (f : ℕ → List ℕ) → ((b : ℕ) → length (f b) ≤ 16) → RowsOf f was → m ≤ 16 → ((i : ℕ) → i < m → getD positions i 0 < 65536)
+      → take m positions ≡ f a → RowsOf f (set memory p (a + 1))
   row-more f short shorts few low is =
-      subst (λ (x : ℕ). Shorts f (set memory x (a + 1))) (sym at)
-      (shorts-more f was shorts short a (a % 128) m positions memory (mod-lt a (lit< tt)) (subst (λ (x : ℕ). CopiedIn positions (x + 1) 4 was memory) at copied) few low is)
+      subst (λ (x : ℕ). RowsOf f (set memory x (a + 1))) (sym at)
+      (rows-more f was shorts short a (a % 128) m positions memory (mod-lt a (lit< tt)) (subst (λ (x : ℕ). CopiedIn positions (x + 1) 4 was memory) at copied)
+      few low is)
 
   pub row-behind : (w q : ℕ) → q < 257 → getD (set memory p w) q 0 ≡ getD was q 0
   row-behind w q h =
@@ -233,9 +243,11 @@ module _ (p a m : ℕ) (positions was memory : List ℕ) (at : p ≡ 257 + 5 * (
       rw getD-set-other (copied .rest q (inl k))
 
 -- what is copied from a row with entry a's number is its shortlist
-pub row-found : (f : ℕ → List ℕ) (memory positions : List ℕ) (p a m : ℕ) → Shorts f memory → p ≡ 257 + 5 * (a % 128) → getD memory p 0 ≡ a + 1 → m ≡ length (f a) → m ≤ 16 → CopiedOut memory (p + 1) m positions → take m positions ≡ f a
+pub row-found : (f : ℕ → List ℕ) (memory positions : List ℕ) (p a m : ℕ) → RowsOf f memory → p ≡ 257 + 5 * (a % 128) → getD memory p 0 ≡ a + 1
+    → m ≡ length (f a) → m ≤ 16 → CopiedOut memory (p + 1) m positions → take m positions ≡ f a
 row-found f memory positions p a m shorts at e size few copied =
-    taken m positions (f a) size (omega (arith, copied .room)) (λ i h. copied .front i h ∙ ap (λ (q : ℕ). digitOf (getD memory q 0) (i % 4)) (place i) ∙ begins i (subst (λ (x : ℕ). i < x) size h))
+    taken m positions (f a) size (omega (arith, copied .room)) (λ i h.
+    copied .front i h ∙ ap (λ (q : ℕ). digitOf (getD memory q 0) (i % 4)) (place i) ∙ begins i (subst (λ (x : ℕ). i < x) size h))
   where
     begins : Begins memory (258 + 5 * (a % 128)) (f a)
     begins = shorts .right (a % 128) a (mod-lt a (lit< tt)) (ap (λ (q : ℕ). getD memory q 0) (sym at) ∙ e)
@@ -244,26 +256,32 @@ row-found f memory positions p a m shorts at e size few copied =
     place i = omega arith
 
 -- no row yet
-pub shorts-none : (f : ℕ → List ℕ) → Shorts f (replicate 897 0)
-shorts-none f = record { room = length-replicate 897 zero; right = λ j a l e. absurd (none j a l e) }
+pub rows-none : (f : ℕ → List ℕ) → RowsOf f (replicate memorySize 0)
+rows-none f = record { room = length-replicate memorySize zero; right = λ j a l e. absurd (none j a l e) }
   where
-    none : (j a : ℕ) → j < 128 → getD (replicate 897 zero) (257 + 5 * j) 0 ≡ a + 1 → ⊥
-    none j a l e = let z : getD (replicate 897 zero) (257 + 5 * j) 0 ≡ 0 = getD-replicate 897 (257 + 5 * j) zero zero (omega arith) in absurd (omega arith)
+    none : (j a : ℕ) → j < 128 → getD (replicate memorySize zero) (257 + 5 * j) 0 ≡ a + 1 → ⊥
+    none j a l e =
+        let z : getD (replicate memorySize zero) (257 + 5 * j) 0 ≡ 0 = getD-replicate memorySize (257 + 5 * j) zero zero (omega arith) in
+        absurd (omega arith)
 
 -- ---- shortlists
 module _ (oklab : ℕ → Oklab) (n width : ℕ) where
-  pub short-few : (a : ℕ) → length (shortOf oklab n width a) ≤ 16
-  unfolding shortOf
-  short-few a = let l : length (take (clampWidth width) (ranked (distances (oklab a) oklab) a n)) ≤ clampWidth width = length-take-le (clampWidth width) (ranked (distances (oklab a) oklab) a n) in omega (arith, clamp-high width)
+  pub short-few : (a : ℕ) → length (shortlistAt oklab n width a) ≤ 16
+  unfolding shortlistAt
+  short-few a =
+      let l : length (take (clampWidth width) (ranked (distances (oklab a) oklab) a n)) ≤ clampWidth width =
+      length-take-le (clampWidth width) (ranked (distances (oklab a) oklab) a n) in
+      omega (arith, clamp-high width)
 
   module _ (range : (k : ℕ) → k < n → T (allInRange (oklab k))) (a : ℕ) (inside : a < n) where
-    is : Shortlist (distances (oklab a) oklab) a n (clampWidth width) (shortOf oklab n width a)
-    unfolding shortOf
+    is : Shortlist (distances (oklab a) oklab) a n (clampWidth width) (shortlistAt oklab n width a)
+    unfolding shortlistAt
     is = shortlist-is (distances (oklab a) oklab) a n (distances-plain oklab n range (oklab a) (range a inside)) inside width
 
-    pub short-length : length (shortOf oklab n width a) ≡ min (clampWidth width) (n - 1)
+    pub short-length : length (shortlistAt oklab n width a) ≡ min (clampWidth width) (n - 1)
     short-length = is .size
 
     -- its positions are entries
-    pub short-below : (m : ℕ) (positions : List ℕ) → take m positions ≡ shortOf oklab n width a → m ≤ length positions → (i : ℕ) → i < m → getD positions i 0 < n
+    pub short-below : (m : ℕ) (positions : List ℕ) → take m positions ≡ shortlistAt oklab n width a → m ≤ length positions → (i : ℕ) → i < m
+        → getD positions i 0 < n
     short-below m positions e l i h = is .sound (getD positions i 0) (subst (λ (ps : List ℕ). In (getD positions i 0) ps) e (in-front m positions i l h)) .0

@@ -23,14 +23,14 @@ use Rattle.mixing.specs.Lerp.{along, shareOf, mixResidual}
 use Rattle.shortlist.specs.Candidates.{Candidates}
 use Rattle.shortlist.specs.Nearest.{nearestIn}
 use Rattle.lookup.specs.Second.{nearestTwoOf}
-use Rattle.remembered.specs.Table.{nearestAlone, nearestBoth, keyOf, secondWith, pairWith, Kept, ByRgb}
+use Rattle.remembered.specs.Table.{memorySize, pairRoom, positionRoom, nearestAlone, nearestBoth, keyOf, secondWith, pairWith, TableOf, ByRgb}
 
 -- a word's key, and the number beside it
-module _ (k x : ℕ) (l : x < 68719476736) where
-  word-key : (k * 68719476736 + x) / 68719476736 ≡ k
+module _ (k x : ℕ) (l : x < pairRoom) where
+  word-key : (k * pairRoom + x) / pairRoom ≡ k
   word-key = omega arith
 
-  word-number : (k * 68719476736 + x) % 68719476736 ≡ x
+  word-number : (k * pairRoom + x) % pairRoom ≡ x
   word-number = omega arith
 
 -- the key has red, green and blue
@@ -47,17 +47,19 @@ key-only c c′ s t e =
     let g : c .0 .g ≡ c′ .0 .g = same-low (c .0 .g) (c .0 .b) (c′ .0 .g) (c′ .0 .b) (s .g) (t .g) (omega arith) in
     record { r = r; g = g; b = omega arith }
 
-module _ (f : NormalizedColor → Two) (memory : List ℕ) (kept : Kept f memory) where
+module _ (f : NormalizedColor → Two) (memory : List ℕ) (kept : TableOf f memory) where
   -- the number beside a colour's key is its pair's
-  pub kept-pair : (c : NormalizedColor) (j : ℕ) → Bytes c → j < 256 → getD memory j 0 / 68719476736 ≡ keyOf c → pairWith (getD memory j 0 % 68719476736 + 1 - 1) ≡ f c
-  kept-pair c j s l e = let back : getD memory j 0 % 68719476736 + 1 - 1 ≡ getD memory j 0 % 68719476736 = omega arith in ap pairWith back ∙ kept .right j l c s e
+  pub table-pair : (c : NormalizedColor) (j : ℕ) → Bytes c → j < 256 → getD memory j 0 / pairRoom ≡ keyOf c
+      → pairWith (getD memory j 0 % pairRoom + 1 - 1) ≡ f c
+  table-pair c j s l e = let back : getD memory j 0 % pairRoom + 1 - 1 ≡ getD memory j 0 % pairRoom = omega arith in ap pairWith back ∙ kept .right j l c s e
 
   -- a word that changes to one that is right
-  stored : (j w : ℕ) → j < 897 → (j < 256 → (c : NormalizedColor) → Bytes c → w / 68719476736 ≡ keyOf c → pairWith (w % 68719476736) ≡ f c) → Kept f (set memory j w)
+  stored : (j w : ℕ) → j < memorySize → (j < 256 → (c : NormalizedColor) → Bytes c → w / pairRoom ≡ keyOf c → pairWith (w % pairRoom) ≡ f c)
+      → TableOf f (set memory j w)
   stored j w h right = record { room = simp length-set (kept .room); right = λ i l. go i l (eqb i j) refl }
     where
-      go : (i : ℕ) → i < 256 → (t : Bool) → eqb i j ≡ t → (c : NormalizedColor) → Bytes c → getD (set memory j w) i 0 / 68719476736 ≡ keyOf c
-          → pairWith (getD (set memory j w) i 0 % 68719476736) ≡ f c
+      go : (i : ℕ) → i < 256 → (t : Bool) → eqb i j ≡ t → (c : NormalizedColor) → Bytes c → getD (set memory j w) i 0 / pairRoom ≡ keyOf c
+          → pairWith (getD (set memory j w) i 0 % pairRoom) ≡ f c
       go i l true t =
           let q : i ≡ j = eqb-true i j t in
           let k : j < 256 = omega arith in
@@ -66,21 +68,25 @@ module _ (f : NormalizedColor → Two) (memory : List ℕ) (kept : Kept f memory
       go i l false t = let n : i ≡ j → ⊥ = eqb-false i j t in rw getD-set-other (kept .right i l)
 
   -- a colour's pair is remembered
-  pub kept-more : ByRgb f → (c : NormalizedColor) (j x : ℕ) → Bytes c → j < 256 → x < 68719476736 → pairWith x ≡ f c → Kept f (set memory j (keyOf c * 68719476736 + x))
-  kept-more by c j x s l h e =
-      stored j (keyOf c * 68719476736 + x) (omega arith)
+  pub table-more : ByRgb f → (c : NormalizedColor) (j x : ℕ) → Bytes c → j < 256 → x < pairRoom → pairWith x ≡ f c
+      → TableOf f (set memory j (keyOf c * pairRoom + x))
+  table-more by c j x s l h e =
+      stored j (keyOf c * pairRoom + x) (omega arith)
       (λ _ c′ t same. ap pairWith (word-number (keyOf c) x h) ∙ e ∙ by .same c c′ (key-only c c′ s t (sym (word-key (keyOf c) x h) ∙ same)))
 
   -- the last position is noted behind the words
-  pub kept-last : (k : ℕ) → Kept f (set memory 256 k)
-  kept-last k = stored 256 k (lit< tt) (λ l. absurd (omega arith))
+  pub table-last : (k : ℕ) → TableOf f (set memory 256 k)
+  table-last k = stored 256 k (lit< tt) (λ l. absurd (omega arith))
 
 -- nothing is remembered yet
-pub kept-none : (f : NormalizedColor → Two) → Kept f (replicate 897 0)
+pub table-none : (f : NormalizedColor → Two) → TableOf f (replicate memorySize 0)
 unfolding keyOf
-kept-none f = record { room = length-replicate 897 zero; right = λ j l c s e. absurd (none c (sym (ap (λ (w : ℕ). w / 68719476736) (getD-replicate 897 j zero zero (omega arith))) ∙ e)) }
+table-none f = record {
+  room = length-replicate memorySize zero;
+  right = λ j l c s e. absurd (none c (sym (ap (λ (w : ℕ). w / pairRoom) (getD-replicate memorySize j zero zero (omega arith))) ∙ e));
+}
   where
-    none : (c : NormalizedColor) → 0 / 68719476736 ≡ keyOf c → ⊥
+    none : (c : NormalizedColor) → 0 / pairRoom ≡ keyOf c → ⊥
     none c e = omega arith
 
 -- ---- pairs as numbers
@@ -91,11 +97,11 @@ pub second-less : (s : ℕ) → (s ≡ 0 → ⊥) → secondWith s ≡ At (s - 1
 second-less zero n = absurd (n refl)
 second-less (suc k) n = ap At (omega arith)
 
-pub pair-is : (a s : ℕ) (second : Second) → s < 262144 → secondWith s ≡ second → pairWith (a * 262144 + s) ≡ (record { first = a; second = second })
+pub pair-is : (a s : ℕ) (second : Second) → s < positionRoom → secondWith s ≡ second → pairWith (a * positionRoom + s) ≡ (record { first = a; second = second })
 unfolding pairWith
 pair-is a s second l e =
-    let d : (a * 262144 + s) / 262144 ≡ a = omega arith in
-    let m : (a * 262144 + s) % 262144 ≡ s = omega arith in
+    let d : (a * positionRoom + s) / positionRoom ≡ a = omega arith in
+    let m : (a * positionRoom + s) % positionRoom ≡ s = omega arith in
     λ q. record { first = d q; second = (ap secondWith m ∙ e) q }
 
 -- ---- the answers go by red, green and blue alone

@@ -10,11 +10,11 @@ use Rattle.color.specs.declared.Oklab.{Oklab}
 use Rattle.shortlist.specs.Candidates.{Candidates}
 use Rattle.shortlist.specs.Nearest.{distances}
 use Rattle.shortlist.specs.Shortlist.{shortlistOf}
-use Rattle.remembered.specs.Table.{nearestBoth, Kept}
+use Rattle.remembered.specs.Table.{memorySize, nearestBoth, TableOf}
 
 -- the shortlist of entry a
-unfoldable pub shortOf : (ℕ → Oklab) → ℕ → ℕ → ℕ → List ℕ
-shortOf oklab n width a = shortlistOf (distances (oklab a) oklab) a n width
+unfoldable pub shortlistAt : (ℕ → Oklab) → ℕ → ℕ → ℕ → List ℕ
+shortlistAt oklab n width a = shortlistOf (distances (oklab a) oklab) a n width
 
 -- four positions stand in a word, 16 bits each: number j of a word, and number i from word p on
 unfoldable pub digitOf : ℕ → ℕ → ℕ
@@ -27,15 +27,16 @@ placed memory p i = digitOf (getD memory (p + i / 4) 0) (i % 4)
 abbrev pub Begins : List ℕ → ℕ → List ℕ → Type 0
 Begins memory p ps = (i : ℕ) → i < length ps → placed memory p i ≡ getD ps i 0
 
--- a row is an entry's number and one more, and its shortlist: each row with an entry's number has what f answers for that entry
-pub record Shorts (f : ℕ → List ℕ) (memory : List ℕ) : Type 0 where
-  pub room : length memory ≡ 897
+-- the memory's rows are of f's shortlists. A row is an entry's number and one more, and its shortlist: each row with an entry's number has what f
+-- answers for that entry
+pub record RowsOf (f : ℕ → List ℕ) (memory : List ℕ) : Type 0 where
+  pub room : length memory ≡ memorySize
   pub right : (j a : ℕ) → j < 128 → getD memory (257 + 5 * j) 0 ≡ a + 1 → Begins memory (258 + 5 * j) (f a)
 
 -- what is remembered for an ordered kind: pairs by colour, and shortlists
-pub record KeptBoth (cs : Candidates) (width : ℕ) (memory : List ℕ) : Type 0 where
-  pub pairs : Kept (nearestBoth cs width) memory
-  pub shorts : Shorts (shortOf (cs .oklab) (cs .count) width) memory
+pub record TableAndRows (cs : Candidates) (width : ℕ) (memory : List ℕ) : Type 0 where
+  pub pairs : TableOf (nearestBoth cs width) memory
+  pub shorts : RowsOf (shortlistAt (cs .oklab) (cs .count) width) memory
 
 -- ---- how the code copies a row
 
@@ -45,7 +46,7 @@ Elsewhere p n was memory = (q : ℕ) → (q < p) ⊎ (p + n ≤ q) → getD memo
 
 -- the first 4 n of the positions are packed into n words from p on
 pub record CopiedIn (positions : List ℕ) (p n : ℕ) (was memory : List ℕ) : Type 0 where
-  pub room : length memory ≡ 897
+  pub room : length memory ≡ memorySize
   pub front : (i : ℕ) → i < 4 * n → placed memory p i ≡ getD positions i 0 % 65536
   pub rest : Elsewhere p n was memory
 

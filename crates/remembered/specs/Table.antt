@@ -1,7 +1,7 @@
 -- A table of answers remembered by colour: 256 words, and behind them the position that was found last. An answer is a pair, the nearest candidate
 -- and the second. Definitions only.
--- Written from document 01, "What changes shape in Rattle": the `HashMap` of brackets may be worked out anew; what is remembered is what would be
--- worked out.
+-- Document 01, "What changes shape in Rattle", says of the `HashMap` of brackets: "worked out anew". The table departs from that form, for speed alone:
+-- what is recalled is what would be worked out anew (`TableOf`), and no promise of a call mentions it.
 use Prim.Native.Nat.{ℕ, zero, suc, _+_, _*_, _/_, _%_, _<_}
 use mathlib.Core.Path.{_≡_}
 use mathlib.Core.List.{List}
@@ -16,6 +16,20 @@ use Rattle.lookup.specs.declared.Two.{Two}
 use Rattle.lookup.specs.declared.Second.{Second}
 use Rattle.lookup.specs.declared.Second.the-variants.{At, Nothing}
 use Rattle.lookup.specs.Second.{nearestTwoOf}
+
+-- ---- sizes
+
+-- the words of the memory: 256 of the table, the position found last, and 128 rows of five words (Shorts)
+abbrev pub memorySize : ℕ
+memorySize = 897
+
+-- 2^18: the positions that a pair's number has room for
+abbrev pub positionRoom : ℕ
+positionRoom = 262144
+
+-- 2^36: the pairs' numbers that a word has room for beside a key
+abbrev pub pairRoom : ℕ
+pairRoom = 68719476736
 
 -- ---- what is remembered of a colour
 
@@ -33,18 +47,20 @@ nearestBoth cs width c = nearestTwoOf cs width (toOklab c) c
 unfoldable pub keyOf : NormalizedColor → ℕ
 keyOf c = c .0 .r + 256 * c .0 .g + 65536 * c .0 .b + 1
 
--- the pair with a number below 2^36: the first's position, and the second's and one more, 0 where there is none
+-- the second with a number: 0 where there is none, else its position and one more
 abbrev pub secondWith : ℕ → Second
 secondWith zero = Nothing
 secondWith (suc k) = At k
 
+-- the pair with a number: the first's position, and the second's number
 unfoldable pub pairWith : ℕ → Two
-pairWith x = record { first = x / 262144; second = secondWith (x % 262144) }
+pairWith x = record { first = x / positionRoom; second = secondWith (x % positionRoom) }
 
--- a word is a key times 2^36, and a pair's number: each of the first 256 that has a colour's key has what f answers for that colour
-pub record Kept (f : NormalizedColor → Two) (memory : List ℕ) : Type 0 where
-  pub room : length memory ≡ 897
-  pub right : (j : ℕ) → j < 256 → (c : NormalizedColor) → Bytes c → getD memory j 0 / 68719476736 ≡ keyOf c → pairWith (getD memory j 0 % 68719476736) ≡ f c
+-- the memory's table is of f's answers. A word is a key times 2^36 and a pair's number: each of the first 256 that has a colour's key has what f
+-- answers for that colour
+pub record TableOf (f : NormalizedColor → Two) (memory : List ℕ) : Type 0 where
+  pub room : length memory ≡ memorySize
+  pub right : (j : ℕ) → j < 256 → (c : NormalizedColor) → Bytes c → getD memory j 0 / pairRoom ≡ keyOf c → pairWith (getD memory j 0 % pairRoom) ≡ f c
 
 -- f answers by red, green and blue alone
 pub record ByRgb (f : NormalizedColor → Two) : Type 0 where

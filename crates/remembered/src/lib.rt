@@ -1,7 +1,9 @@
 // Answers remembered by colour, so that a colour that comes again is not looked up again. The original keeps a `HashMap` of
-// brackets; here it is a lent table of 256 words, one for each hash, behind them the position that was found last, which is
-// where the next search begins, and then 128 rows of shortlists.
-pub mod shorts;
+// brackets, and document 01 has them worked out anew; here is a lent table of 256 words, one for each hash, behind them the
+// position that was found last, which is where the next search begins, and then 128 rows of shortlists. What is answered is
+// what would be worked out anew, so no promise of a call mentions the table.
+mod seconds;
+mod shorts;
 
 use color::NormalizedColor;
 use conversion::to_oklab_with;
@@ -9,7 +11,8 @@ use lookup::BracketAt;
 use lookup::Second;
 use lookup::Two;
 use lookup::brackets::bracket_with;
-use lookup::seconds::second_of;
+use seconds::normal_at;
+use seconds::second_of;
 ghost use mathlib.Core.Path.{_≡_};
 ghost use mathlib.Core.List.{List};
 ghost use Prim.Native.Nat.{ℕ, _+_, _-_, _*_, _/_, _%_, _<_, _≤_};
@@ -23,8 +26,16 @@ ghost use Rattle.shortlist.specs.Candidates.{scaled, RangedList};
 ghost use Rattle.shortlist.specs.Nearest.{nearestIn};
 ghost use Rattle.lookup.specs.Second.{nearestTwoOf};
 ghost use Rattle.lookup.specs.Bracket.{bracketAtOf};
-ghost use Rattle.remembered.specs.Shorts.{Shorts, KeptBoth};
-ghost use Rattle.remembered.specs.Table.{nearestAlone, keyOf, secondWith, pairWith, Kept, ByRgb};
+ghost use Rattle.remembered.specs.Shorts.{RowsOf, TableAndRows};
+ghost use Rattle.remembered.specs.Table.{memorySize, positionRoom, pairRoom, nearestAlone, keyOf, secondWith, pairWith, TableOf, ByRgb};
+
+// The words of the memory: 256 of the table, the position that was found last, and 128 rows of five words.
+pub const MEMORY: usize = 897;
+
+// In a pair's number, 18 bits for each of the two; in a word, 36 bits for a pair's number.
+const POSITIONS: u64 = 262144;
+
+const PAIRS: u64 = 68719476736;
 
 // ---- keys, and pairs as numbers
 
@@ -36,7 +47,7 @@ fn key_of(c: NormalizedColor) -> u64
 }
 
 // The word's place for a key.
-fn place_of(key: u64) -> usize
+fn slot_of(key: u64) -> usize
     requires { ⌜ key ≤ 16777216 ⌝ }
     ensures { λ j. ⌜ j < 256 ⌝ }
 {
@@ -45,39 +56,39 @@ fn place_of(key: u64) -> usize
 
 // The second's number: its position and one more, or 0; 2^18 where that is too large.
 fn second_number(second: Second) -> u64
-    ensures { λ x. ⌜ (x < 262144 → secondWith x ≡ second) ⌝ }
+    ensures { λ x. ⌜ (x < positionRoom → secondWith x ≡ second) ⌝ }
 {
     let Second::At(k) = second else {
         return 0;
     };
-    if k < 262143 {
+    if (k as u64) < POSITIONS - 1 {
         return k as u64 + 1;
     }
-    262144
+    POSITIONS
 }
 
 // The pair's number; 2^36 where it has none.
 fn number_of(pair: Two) -> u64
-    ensures { λ x. ⌜ (x < 68719476736 → pairWith x ≡ pair) ⌝ }
+    ensures { λ x. ⌜ (x < pairRoom → pairWith x ≡ pair) ⌝ }
 {
     let first = pair.first;
     let second = pair.second;
     let s = second_number(second);
-    if first >= 262144 {
-        return 68719476736;
+    if first as u64 >= POSITIONS {
+        return PAIRS;
     }
-    if s >= 262144 {
-        return 68719476736;
+    if s >= POSITIONS {
+        return PAIRS;
     }
-    first as u64 * 262144 + s
+    first as u64 * POSITIONS + s
 }
 
 // The pair with a number.
 fn pair_with(x: u64) -> Two
     ensures { λ pair. ⌜ pair ≡ pairWith x ⌝ }
 {
-    let first = (x / 262144) as usize;
-    let second = x % 262144;
+    let first = (x / POSITIONS) as usize;
+    let second = x % POSITIONS;
     if second == 0 {
         return Two {
             first: first,
@@ -93,34 +104,34 @@ fn pair_with(x: u64) -> Two
 // ---- the table
 
 // What is remembered of a colour: its pair's number and one more, or 0.
-fn recalled(memory: &[u64; 897], c: NormalizedColor) -> u64
-    requires { ⌜ length (now memory) ≡ 897 ⌝ }
-    ensures { λ r. ⌜ ((f : NormalizedColor → Two) → Kept f (now (memory .entry)) → 0 < r → pairWith (r - 1) ≡ f c) ⌝ }
+fn recalled(memory: &[u64; MEMORY], c: NormalizedColor) -> u64
+    requires { ⌜ length (now memory) ≡ memorySize ⌝ }
+    ensures { λ r. ⌜ ((f : NormalizedColor → Two) → TableOf f (now (memory .entry)) → 0 < r → pairWith (r - 1) ≡ f c) ⌝ }
 {
     let key = key_of(c);
-    let word = memory[place_of(key)];
-    if word / 68719476736 == key {
-        return word % 68719476736 + 1;
+    let word = memory[slot_of(key)];
+    if word / PAIRS == key {
+        return word % PAIRS + 1;
     }
     0
 }
 
 // Remembers a colour's pair, if it has a number.
-fn keep(memory: &mut [u64; 897], c: NormalizedColor, pair: Two)
-    requires { ⌜ length (now memory) ≡ 897 ⌝ }
-    ensures { λ _. ⌜ ((f : NormalizedColor → Two) → ByRgb f → pair ≡ f c → Kept f (now (memory .entry)) → Kept f (now (memory .exit)))
-        × ((g : ℕ → List ℕ) → Shorts g (now (memory .entry)) → Shorts g (now (memory .exit))) ⌝ }
+fn keep(memory: &mut [u64; MEMORY], c: NormalizedColor, pair: Two)
+    requires { ⌜ length (now memory) ≡ memorySize ⌝ }
+    ensures { λ _. ⌜ ((f : NormalizedColor → Two) → ByRgb f → pair ≡ f c → TableOf f (now (memory .entry)) → TableOf f (now (memory .exit)))
+        × ((g : ℕ → List ℕ) → RowsOf g (now (memory .entry)) → RowsOf g (now (memory .exit))) ⌝ }
 {
     let key = key_of(c);
     let x = number_of(pair);
-    if x < 68719476736 {
-        memory[place_of(key)] = key * 68719476736 + x;
+    if x < PAIRS {
+        memory[slot_of(key)] = key * PAIRS + x;
     }
 }
 
 // The position that was found last, or 0 where the list has not as many.
-fn last_of(memory: &[u64; 897], count: usize) -> usize
-    requires { ⌜ (length (now memory) ≡ 897) × (0 < count) ⌝ }
+fn last_of(memory: &[u64; MEMORY], count: usize) -> usize
+    requires { ⌜ (length (now memory) ≡ memorySize) × (0 < count) ⌝ }
     ensures { λ k. ⌜ k < count ⌝ }
 {
     let k = memory[256] as usize;
@@ -128,10 +139,10 @@ fn last_of(memory: &[u64; 897], count: usize) -> usize
 }
 
 // Notes the position that was found.
-fn note_last(memory: &mut [u64; 897], k: usize)
-    requires { ⌜ length (now memory) ≡ 897 ⌝ }
-    ensures { λ _. ⌜ ((f : NormalizedColor → Two) → Kept f (now (memory .entry)) → Kept f (now (memory .exit)))
-        × ((g : ℕ → List ℕ) → Shorts g (now (memory .entry)) → Shorts g (now (memory .exit))) ⌝ }
+fn note_last(memory: &mut [u64; MEMORY], k: usize)
+    requires { ⌜ length (now memory) ≡ memorySize ⌝ }
+    ensures { λ _. ⌜ ((f : NormalizedColor → Two) → TableOf f (now (memory .entry)) → TableOf f (now (memory .exit)))
+        × ((g : ℕ → List ℕ) → RowsOf g (now (memory .entry)) → RowsOf g (now (memory .exit))) ⌝ }
 {
     memory[256] = k as u64;
 }
@@ -159,11 +170,11 @@ pub fn nearest_position(
     oklab: &[f32],
     count: usize,
     color: NormalizedColor,
-    memory: &mut [u64; 897],
+    memory: &mut [u64; MEMORY],
 ) -> usize
-    requires { ⌜ (now linear ≡ values) × (0 < count) × RangedList (now oklab) count × Kept (nearestAlone (oklabAt (now oklab)) count) (now memory) ⌝ }
+    requires { ⌜ (now linear ≡ values) × (0 < count) × RangedList (now oklab) count × TableOf (nearestAlone (oklabAt (now oklab)) count) (now memory) ⌝ }
     ensures { λ k. ⌜ (k ≡ nearestIn (oklabAt (now (oklab .entry))) count (toOklab color))
-        × Kept (nearestAlone (oklabAt (now (oklab .entry))) count) (now (memory .exit)) ⌝ }
+        × TableOf (nearestAlone (oklabAt (now (oklab .entry))) count) (now (memory .exit)) ⌝ }
 {
     let known = recalled(memory, color);
     if known > 0 {
@@ -191,12 +202,12 @@ fn pair_anew(
     width: u64,
     color: NormalizedColor,
     seed: usize,
-    memory: &mut [u64; 897],
+    memory: &mut [u64; MEMORY],
 ) -> Two
     requires { ⌜ (now linear ≡ values) × (4 * count ≤ length (now colors)) × (length (now scale) ≡ 256) × RangedList (now oklab) count × (seed < count)
-        × KeptBoth (scaled (now colors) (now scale) (now oklab) count) width (now memory) ⌝ }
+        × TableAndRows (scaled (now colors) (now scale) (now oklab) count) width (now memory) ⌝ }
     ensures { λ r. ⌜ (r ≡ nearestTwoOf (scaled (now (colors .entry)) (now (scale .entry)) (now (oklab .entry)) count) width (toOklab color) color)
-        × KeptBoth (scaled (now (colors .entry)) (now (scale .entry)) (now (oklab .entry)) count) width (now (memory .exit)) ⌝ }
+        × TableAndRows (scaled (now (colors .entry)) (now (scale .entry)) (now (oklab .entry)) count) width (now (memory .exit)) ⌝ }
 {
     let a = nearest_anew(linear, oklab, count, color, seed);
     let mut positions = [0usize; 16];
@@ -218,12 +229,12 @@ fn pair_positions(
     count: usize,
     width: u64,
     color: NormalizedColor,
-    memory: &mut [u64; 897],
+    memory: &mut [u64; MEMORY],
 ) -> Two
     requires { ⌜ (now linear ≡ values) × (0 < count) × (4 * count ≤ length (now colors)) × (length (now scale) ≡ 256) × RangedList (now oklab) count
-        × KeptBoth (scaled (now colors) (now scale) (now oklab) count) width (now memory) ⌝ }
+        × TableAndRows (scaled (now colors) (now scale) (now oklab) count) width (now memory) ⌝ }
     ensures { λ r. ⌜ (r ≡ nearestTwoOf (scaled (now (colors .entry)) (now (scale .entry)) (now (oklab .entry)) count) width (toOklab color) color)
-        × KeptBoth (scaled (now (colors .entry)) (now (scale .entry)) (now (oklab .entry)) count) width (now (memory .exit)) ⌝ }
+        × TableAndRows (scaled (now (colors .entry)) (now (scale .entry)) (now (oklab .entry)) count) width (now (memory .exit)) ⌝ }
 {
     let known = recalled(memory, color);
     if known > 0 {
@@ -256,12 +267,12 @@ pub fn bracket_positions(
     count: usize,
     width: u64,
     color: NormalizedColor,
-    memory: &mut [u64; 897],
+    memory: &mut [u64; MEMORY],
 ) -> BracketAt
     requires { ⌜ (now linear ≡ values) × (0 < count) × (4 * count ≤ length (now colors)) × (length (now scale) ≡ 256) × RangedList (now oklab) count
-        × KeptBoth (scaled (now colors) (now scale) (now oklab) count) width (now memory) ⌝ }
+        × TableAndRows (scaled (now colors) (now scale) (now oklab) count) width (now memory) ⌝ }
     ensures { λ r. ⌜ (r ≡ bracketAtOf (scaled (now (colors .entry)) (now (scale .entry)) (now (oklab .entry)) count) width (toOklab color) color)
-        × KeptBoth (scaled (now (colors .entry)) (now (scale .entry)) (now (oklab .entry)) count) width (now (memory .exit)) ⌝ }
+        × TableAndRows (scaled (now (colors .entry)) (now (scale .entry)) (now (oklab .entry)) count) width (now (memory .exit)) ⌝ }
 {
     let pair = pair_positions(linear, oklab, colors, scale, count, width, color, memory);
     let a = pair.first;
@@ -269,5 +280,7 @@ pub fn bracket_positions(
     let Second::At(b) = second else {
         return BracketAt::solid(a);
     };
-    bracket_with(oklab, colors, scale, a, b, color)
+    let c1 = normal_at(colors, scale, a);
+    let c2 = normal_at(colors, scale, b);
+    bracket_with(oklab, a, b, c1, c2, color)
 }

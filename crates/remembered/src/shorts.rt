@@ -1,4 +1,5 @@
 // Shortlists remembered by the entry that they belong to, in 128 rows of the lent memory.
+use super::MEMORY;
 use mixing::clamp_width;
 ghost use mathlib.Core.Path.{_≡_};
 ghost use Prim.Native.Nat.{ℕ, _+_, _-_, _*_, _%_, _<_, _≤_, min};
@@ -7,7 +8,8 @@ ghost use lib.ListN.{length, getD, take};
 ghost use Rattle.color.specs.Oklab.{oklabAt};
 ghost use Rattle.mixing.specs.Widths.{clampWidth};
 ghost use Rattle.shortlist.specs.Candidates.{RangedList};
-ghost use Rattle.remembered.specs.Shorts.{shortOf, digitOf, Packed, Shorts, CopiedIn, CopiedOut};
+ghost use Rattle.remembered.specs.Table.{memorySize};
+ghost use Rattle.remembered.specs.Shorts.{shortlistAt, digitOf, Packed, RowsOf, CopiedIn, CopiedOut};
 
 // Where the row of an entry begins.
 fn row_of(a: usize) -> usize
@@ -29,8 +31,8 @@ fn length_of(n: usize, width: u64) -> usize
 }
 
 // Copies m positions from the words from p on.
-fn copy_out(memory: &[u64; 897], p: usize, m: usize, positions: &mut [usize; 16])
-    requires { ⌜ (length (now memory) ≡ 897) × (length (now positions) ≡ 16) × (m ≤ 16) × (p + 4 ≤ 897) ⌝ }
+fn copy_out(memory: &[u64; MEMORY], p: usize, m: usize, positions: &mut [usize; 16])
+    requires { ⌜ (length (now memory) ≡ memorySize) × (length (now positions) ≡ 16) × (m ≤ 16) × (p + 4 ≤ memorySize) ⌝ }
     ensures { λ _. ⌜ CopiedOut (now (memory .entry)) p m (now (positions .exit)) ⌝ }
 {
     let mut i = 0;
@@ -58,8 +60,8 @@ fn packed(a: usize, b: usize, c: usize, d: usize) -> u64
 }
 
 // Packs the positions into the four words from p on.
-fn copy_in(memory: &mut [u64; 897], p: usize, positions: &[usize; 16])
-    requires { ⌜ (length (now memory) ≡ 897) × (length (now positions) ≡ 16) × (p + 4 ≤ 897) ⌝ }
+fn copy_in(memory: &mut [u64; MEMORY], p: usize, positions: &[usize; 16])
+    requires { ⌜ (length (now memory) ≡ memorySize) × (length (now positions) ≡ 16) × (p + 4 ≤ memorySize) ⌝ }
     ensures { λ _. ⌜ CopiedIn (now (positions .entry)) p 4 (now (memory .entry)) (now (memory .exit)) ⌝ }
 {
     let mut w = 0;
@@ -76,10 +78,11 @@ fn copy_in(memory: &mut [u64; 897], p: usize, positions: &[usize; 16])
 }
 
 // Remembers entry a's shortlist, if the list's positions have 16 bits.
-fn keep_short(memory: &mut [u64; 897], n: usize, a: usize, m: usize, positions: &[usize; 16])
-    requires { ⌜ (length (now memory) ≡ 897) × (length (now positions) ≡ 16) × (m ≤ 16) × (a < n) × ((i : ℕ) → i < m → getD (now positions) i 0 < n) ⌝ }
-    ensures { λ _. ⌜ (length (now (memory .exit)) ≡ 897) × ((q : ℕ) → q < 257 → getD (now (memory .exit)) q 0 ≡ getD (now (memory .entry)) q 0)
-        × ((f : ℕ → List ℕ) → ((b : ℕ) → length (f b) ≤ 16) → Shorts f (now (memory .entry)) → take m (now (positions .entry)) ≡ f a → Shorts f (now (memory .exit))) ⌝ }
+fn keep_short(memory: &mut [u64; MEMORY], n: usize, a: usize, m: usize, positions: &[usize; 16])
+    requires { ⌜ (length (now memory) ≡ memorySize) × (length (now positions) ≡ 16) × (m ≤ 16) × (a < n) × ((i : ℕ) → i < m → getD (now positions) i 0 < n) ⌝ }
+    ensures { λ _. ⌜ (length (now (memory .exit)) ≡ memorySize) × ((q : ℕ) → q < 257 → getD (now (memory .exit)) q 0 ≡ getD (now (memory .entry)) q 0)
+        × ((f : ℕ → List ℕ) → ((b : ℕ) → length (f b) ≤ 16) → RowsOf f (now (memory .entry)) → take m (now (positions .entry)) ≡ f a
+        → RowsOf f (now (memory .exit))) ⌝ }
 {
     if n > 65536 {
         return;
@@ -97,11 +100,11 @@ pub fn shortlist(
     a: usize,
     width: u64,
     positions: &mut [usize; 16],
-    memory: &mut [u64; 897],
+    memory: &mut [u64; MEMORY],
 ) -> usize
-    requires { ⌜ RangedList (now oklab) n × (a < n) × (length (now positions) ≡ 16) × Shorts (shortOf (oklabAt (now oklab)) n width) (now memory) ⌝ }
-    ensures { λ m. ⌜ (take m (now (positions .exit)) ≡ shortOf (oklabAt (now (oklab .entry))) n width a) × (m ≤ 16) × (length (now (positions .exit)) ≡ 16)
-        × Shorts (shortOf (oklabAt (now (oklab .entry))) n width) (now (memory .exit))
+    requires { ⌜ RangedList (now oklab) n × (a < n) × (length (now positions) ≡ 16) × RowsOf (shortlistAt (oklabAt (now oklab)) n width) (now memory) ⌝ }
+    ensures { λ m. ⌜ (take m (now (positions .exit)) ≡ shortlistAt (oklabAt (now (oklab .entry))) n width a) × (m ≤ 16) × (length (now (positions .exit)) ≡ 16)
+        × RowsOf (shortlistAt (oklabAt (now (oklab .entry))) n width) (now (memory .exit))
         × ((q : ℕ) → q < 257 → getD (now (memory .exit)) q 0 ≡ getD (now (memory .entry)) q 0) ⌝ }
 {
     let p = row_of(a);

@@ -1,5 +1,7 @@
 -- `exports::badge_nearest` meets its contract: the answer's case decides the number and what is written; the position fits. Assumes nothing.
 use native.Mathlib.Omega.{arith}
+use Rattle.replies.proofs.AnswerLaws.{answered}
+use Rattle.color.specs.declared.NormalizedColor.{NormalizedColor}
 use Rattle.lookup.specs.Answers.{nearestAnswer}
 use Rattle.exports.specs.Lookups.{foundLeft}
 use Rattle.exports.proofs.AnswerLaws.{left-by, of-rgb}
@@ -23,7 +25,7 @@ cast-position c =
     let a = c .before .before .before .before .before .before .before .before .args in
     let f = c .before .before .before .flat-nearest in
     let k = c .before .k .given in
-    omega (arith, position-small (a .reduced .now) (a .normalized .now) (a .oklab .now) (n .result) (f .result) (k .0 .0) (f .ensures) (k .1))
+    omega (arith, position-small (a .reduced .now) (a .normalized .now) (a .oklab .now) (n .result) (f .ensures) (k .1))
 
 enum-known-number : tie.Need-enum-known-number
 enum-known-number c = search needs
@@ -36,14 +38,16 @@ returns c =
     let n = c .before .before .before .before .new in
     let a = c .before .before .before .before .before .before .before .before .args in
     left-by (foundLeft _)
-    (of-rgb (nearestAnswer (a .reduced .now) (a .normalized .now) (a .oklab .now)) (n .result) (a .r) (a .g) (a .b) (n .ensures) (c .before .before .before .flat-nearest .ensures) (c .before .k .given .1))
+    (of-rgb (λ (u : NormalizedColor). nearestAnswer (a .reduced .now) (a .normalized .now) (a .oklab .now) u _) (n .result) (a .r) (a .g) (a .b) (n .ensures)
+    (answered _ _ _ (c .before .before .before .flat-nearest .ensures)) (c .before .k .given .1))
 
 returns-2 : tie.Need-returns-2
 returns-2 c =
     let n = c .before .before .before .before .new in
     let a = c .before .before .before .before .before .before .before .before .args in
     left-by (foundLeft _)
-    (of-rgb (nearestAnswer (a .reduced .now) (a .normalized .now) (a .oklab .now)) (n .result) (a .r) (a .g) (a .b) (n .ensures) (c .before .before .before .flat-nearest .ensures) (c .before .number .given .1))
+    (of-rgb (λ (u : NormalizedColor). nearestAnswer (a .reduced .now) (a .normalized .now) (a .oklab .now) u _) (n .result) (a .r) (a .g) (a .b) (n .ensures)
+    (answered _ _ _ (c .before .before .before .flat-nearest .ensures)) (c .before .number .given .1))
 
 pub badge-nearest-spec : {M : Type 1} → statement M
 badge-nearest-spec =

@@ -1,6 +1,7 @@
 -- `exports::badge_nearest_two` meets its contract: the answer's case decides the number and what is written; the positions fit. Assumes nothing.
 use native.Mathlib.Omega.{arith}
 use mathlib.Core.Path.{_∙_}
+use Rattle.replies.proofs.AnswerLaws.{answered}
 use Rattle.lookup.specs.Answers.{nearestTwoAnswer}
 use Rattle.color.specs.declared.NormalizedColor.{NormalizedColor}
 use Rattle.exports.specs.Lookups.{twoLeft}
@@ -25,7 +26,7 @@ cast-nearest c =
     let a = c .before .before .before .before .before .before .before .before .before .args in
     let f = c .before .before .before .before .flat-nearest-two in
     let t = c .before .before .two .given in
-    omega (arith, positions-small (a .reduced .now) (a .normalized .now) (a .oklab .now) (n .result) (a .width) (f .result) (t .0 .0) (f .ensures) (t .1) .0)
+    omega (arith, positions-small (a .reduced .now) (a .normalized .now) (a .oklab .now) (n .result) (a .width) (f .ensures) (t .1) .0)
 
 second-of-requires : tie.Need-second-of-requires
 second-of-requires c κs = search needs
@@ -36,7 +37,7 @@ cast-other c =
     let a = c .before .before .before .before .before .before .before .before .before .before .args in
     let f = c .before .before .before .before .before .flat-nearest-two in
     let t = c .before .before .before .two .given in
-    omega (arith, c .second-of .ensures, positions-small (a .reduced .now) (a .normalized .now) (a .oklab .now) (n .result) (a .width) (f .result) (t .0 .0) (f .ensures) (t .1) .1)
+    omega (arith, c .second-of .ensures, positions-small (a .reduced .now) (a .normalized .now) (a .oklab .now) (n .result) (a .width) (f .ensures) (t .1) .1)
 
 enum-known-number : tie.Need-enum-known-number
 enum-known-number c = search needs
@@ -48,14 +49,16 @@ returns : tie.Need-returns
 returns c =
     let n = c .before .before .before .before .before .before .new in
     let a = c .before .before .before .before .before .before .before .before .before .before .args in
-    let e = of-rgb (λ (u : NormalizedColor). nearestTwoAnswer (a .reduced .now) (a .normalized .now) (a .oklab .now) u (a .width)) (n .result) (a .r) (a .g) (a .b) (n .ensures) (c .before .before .before .before .before .flat-nearest-two .ensures) (c .before .before .before .two .given .1) in
+    let e = of-rgb (λ (u : NormalizedColor). nearestTwoAnswer (a .reduced .now) (a .normalized .now) (a .oklab .now) u (a .width) _) (n .result) (a .r) (a .g) (a .b)
+    (n .ensures) (answered _ _ _ (c .before .before .before .before .before .flat-nearest-two .ensures)) (c .before .before .before .two .given .1) in
     (λ i. (0, c .before .before .before .two .given .0 .0 .first, c .second-of .ensures i)) ∙ left-by (twoLeft (a .first .now) (a .second .now)) e
 
 returns-2 : tie.Need-returns-2
 returns-2 c =
     let n = c .before .before .before .before .new in
     let a = c .before .before .before .before .before .before .before .before .args in
-    let e = of-rgb (λ (u : NormalizedColor). nearestTwoAnswer (a .reduced .now) (a .normalized .now) (a .oklab .now) u (a .width)) (n .result) (a .r) (a .g) (a .b) (n .ensures) (c .before .before .before .flat-nearest-two .ensures) (c .before .number .given .1) in
+    let e = of-rgb (λ (u : NormalizedColor). nearestTwoAnswer (a .reduced .now) (a .normalized .now) (a .oklab .now) u (a .width) _) (n .result) (a .r) (a .g) (a .b)
+    (n .ensures) (answered _ _ _ (c .before .before .before .flat-nearest-two .ensures)) (c .before .number .given .1) in
     left-by (twoLeft (a .first .now) (a .second .now)) e
 
 pub badge-nearest-two-spec : {M : Type 1} → statement M

@@ -1,10 +1,8 @@
 -- `exports::badge_ordered_bracket` meets its contract: 3 where dark or light is not four bytes, else the answer's case decides. Assumes nothing.
 use mathlib.Core.Path.{_∙_}
 use lib.ListN.{length}
-use Rattle.color.specs.declared.NormalizedColor.{NormalizedColor}
-use Rattle.lookup.specs.Answers.{bracketAnswer}
 use Rattle.exports.specs.Lookups.{bracketLeft}
-use Rattle.exports.proofs.AnswerLaws.{left-by, of-rgb}
+use Rattle.exports.proofs.AnswerLaws.{left-by}
 use Rattle.exports.proofs.LookupLaws.{both-four, bracket-lengths, bracket-four}
 use borrow.Author.Needs.{needs}
 use Rattle.exports.proofs.badge_ordered_bracket.Statement.{statement}
@@ -13,7 +11,8 @@ use Rattle.exports.proofs.badge_ordered_bracket.Tie as tie
 returns : tie.Need-returns
 returns c =
     let a = c .before .before .before .before .before .before .args in
-    left-by (bracketLeft (a .dark .now) (a .light .now) (a .ratio .now)) (bracket-lengths (a .reduced .now) (a .normalized .now) (a .oklab .now) (a .r) (a .g) (a .b) (a .width) (a .dark .now) (a .light .now) (c .if1 .taken))
+    left-by (bracketLeft (a .dark .now) (a .light .now) (a .ratio .now))
+    (bracket-lengths (a .reduced .now) (a .normalized .now) (a .oklab .now) (a .r) (a .g) (a .b) (a .width) (a .dark .now) (a .light .now) (c .if1 .taken))
 
 new-requires : tie.Need-new-requires
 new-requires c κs = search needs
@@ -44,19 +43,22 @@ same-length-2 c = search needs
 
 returns-2 : tie.Need-returns-2
 returns-2 c =
-    let n = c .before .before .before .before .before .before .before .before .before .before .before .before .new in
-    let a = c .before .before .before .before .before .before .before .before .before .before .before .before .before .before .before .before .before .before .before .args in
-    let e = bracket-four (a .reduced .now) (a .normalized .now) (a .oklab .now) (a .r) (a .g) (a .b) (a .width) (a .dark .now) (a .light .now) (c .before .before .before .before .before .before .before .before .before .before .before .before .before .if1 .left)
-    ∙ of-rgb (λ (u : NormalizedColor). bracketAnswer (a .reduced .now) (a .normalized .now) (a .oklab .now) u (a .width)) (n .result) (a .r) (a .g) (a .b) (n .ensures) (c .before .before .before .before .before .before .before .before .before .before .before .flat-ordered-bracket .ensures) (c .before .before .before .before .before .before .before .before .before .bracket .given .1) in
-    (λ i. (0, c .before .before .before .before .before .before .put-color .ensures i, c .before .before .put-color2 .ensures i, c .before .before .before .before .before .before .before .before .before .bracket .given .0 .0 .ratio)) ∙ left-by (bracketLeft (a .dark .now) (a .light .now) (a .ratio .now)) e
+    let m = c .before .before .before .before .before .before .before .before .before in
+    let f = m .before .before .flat-ordered-bracket in
+    let n = m .before .before .before .new in
+    let a = m .before .before .before .before .before .before .before .before .before .before .args in
+    let e = bracket-four (a .reduced .now) (a .normalized .now) (a .oklab .now) (a .r) (a .g) (a .b) (a .width) (a .dark .now) (a .light .now)
+    (m .before .before .before .before .if1 .left) (n .result) (n .ensures) (f .ensures) (m .bracket .given .1) in
+    (λ i. (0, c .before .before .before .before .before .before .put-color .ensures i, c .before .before .put-color2 .ensures i, m .bracket .given .0 .0 .ratio))
+    ∙ left-by (bracketLeft (a .dark .now) (a .light .now) (a .ratio .now)) e
 
 returns-3 : tie.Need-returns-3
 returns-3 c =
     let n = c .before .before .before .before .new in
     let a = c .before .before .before .before .before .before .before .before .before .before .before .args in
     left-by (bracketLeft (a .dark .now) (a .light .now) (a .ratio .now))
-    (bracket-four (a .reduced .now) (a .normalized .now) (a .oklab .now) (a .r) (a .g) (a .b) (a .width) (a .dark .now) (a .light .now) (c .before .before .before .before .before .if1 .left)
-    ∙ of-rgb (λ (u : NormalizedColor). bracketAnswer (a .reduced .now) (a .normalized .now) (a .oklab .now) u (a .width)) (n .result) (a .r) (a .g) (a .b) (n .ensures) (c .before .before .before .flat-ordered-bracket .ensures) (c .before .number .given .1))
+    (bracket-four (a .reduced .now) (a .normalized .now) (a .oklab .now) (a .r) (a .g) (a .b) (a .width) (a .dark .now) (a .light .now)
+    (c .before .before .before .before .before .if1 .left) (n .result) (n .ensures) (c .before .before .before .flat-ordered-bracket .ensures) (c .before .number .given .1))
 
 pub badge-ordered-bracket-spec : {M : Type 1} → statement M
 badge-ordered-bracket-spec =

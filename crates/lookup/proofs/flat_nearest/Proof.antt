@@ -1,10 +1,8 @@
 -- `flat_nearest` meets its contract: the refusal, or the nearest. Assumes nothing.
-use mathlib.Core.Path.{sym, ap, _∙_}
+use mathlib.Core.Path.{sym, _∙_}
 use native.Mathlib.Omega.{arith}
-use Rattle.lookup.specs.Answers.{nearestAnswer}
-use Rattle.lookup.specs.declared.Found.the-variants.{At, Refused}
 use Rattle.lookup.proofs.ListLaws.{accepted}
-use Rattle.lookup.proofs.AnswerLaws.{refused, granted, in-range}
+use Rattle.lookup.proofs.AnswerLaws.{nearest-refused, nearest-accepted, in-range}
 use borrow.Author.Needs.{needs}
 use Rattle.lookup.proofs.flat_nearest.Statement.{statement}
 use Rattle.lookup.proofs.flat_nearest.Tie as tie
@@ -13,8 +11,7 @@ list-refusal-requires : tie.Need-list-refusal-requires
 list-refusal-requires c κs = search needs
 
 returns : tie.Need-returns
-unfolding nearestAnswer
-returns c = refused Refused _ _ _ (c .before .list-refusal .ensures) (c .if1 .taken)
+returns c = nearest-refused _ _ _ _ _ (c .before .list-refusal .ensures) (c .if1 .taken)
 
 to-oklab-requires : tie.Need-to-oklab-requires
 to-oklab-requires c κs = search needs
@@ -27,10 +24,9 @@ nearest-position-requires c κs =
     (A .ranged, in-range (a .color) (c .to-oklab .result) (c .to-oklab .ensures) (omega arith) (omega arith) (omega arith), A .positive)
 
 returns-2 : tie.Need-returns-2
-unfolding nearestAnswer
 returns-2 c =
-    granted Refused _ _ _ _ (c .before .before .before .list-refusal .ensures) (c .before .before .if1 .left)
-    (rw (← c .before .to-oklab .ensures) (ap At (c .nearest-position .ensures)))
+    nearest-accepted _ _ _ _ _ (c .before .before .before .list-refusal .ensures) (c .before .before .if1 .left) _ _ (c .before .to-oklab .ensures)
+    (c .nearest-position .ensures)
 
 pub flat-nearest-spec : {M : Type 1} → statement M
 flat-nearest-spec =

@@ -1,9 +1,7 @@
 -- `flat_nearest_two` meets its contract: the refusal, or the nearest two. Assumes nothing.
-use mathlib.Core.Path.{sym, ap, _∙_}
+use mathlib.Core.Path.{sym, _∙_}
 use native.Mathlib.Omega.{arith}
-use Rattle.lookup.specs.Answers.{nearestTwoAnswer}
-use Rattle.lookup.specs.declared.FoundTwo.the-variants.{At, Refused}
-use Rattle.lookup.proofs.AnswerLaws.{refused, granted, in-range}
+use Rattle.lookup.proofs.AnswerLaws.{two-refused, two-accepted, in-range}
 use borrow.Author.Needs.{needs}
 use Rattle.lookup.proofs.flat_nearest_two.Statement.{statement}
 use Rattle.lookup.proofs.flat_nearest_two.Tie as tie
@@ -12,8 +10,7 @@ list-refusal-requires : tie.Need-list-refusal-requires
 list-refusal-requires c κs = search needs
 
 returns : tie.Need-returns
-unfolding nearestTwoAnswer
-returns c = refused Refused _ _ _ (c .before .list-refusal .ensures) (c .if1 .taken)
+returns c = two-refused _ _ _ _ _ _ (c .before .list-refusal .ensures) (c .if1 .taken)
 
 to-oklab-requires : tie.Need-to-oklab-requires
 to-oklab-requires c κs = search needs
@@ -21,14 +18,14 @@ to-oklab-requires c κs = search needs
 two-of-requires : tie.Need-two-of-requires
 two-of-requires c κs = (
   sym (c .before .before .list-refusal .ensures) ∙ c .before .if1 .left,
-  in-range (c .before .before .before .before .before .before .args .color) (c .to-oklab .result) (c .to-oklab .ensures) (omega arith) (omega arith) (omega arith),
+  in-range (c .before .before .before .before .before .before .args .color) (c .to-oklab .result) (c .to-oklab .ensures)
+      (omega arith) (omega arith) (omega arith),
 )
 
 returns-2 : tie.Need-returns-2
-unfolding nearestTwoAnswer
 returns-2 c =
-    granted Refused _ _ _ _ (c .before .before .before .list-refusal .ensures) (c .before .before .if1 .left)
-    (rw (← c .before .to-oklab .ensures) (ap At (c .two-of .ensures)))
+    two-accepted _ _ _ _ _ _ (c .before .before .before .list-refusal .ensures) (c .before .before .if1 .left) _ _ (c .before .to-oklab .ensures)
+    (c .two-of .ensures)
 
 pub flat-nearest-two-spec : {M : Type 1} → statement M
 flat-nearest-two-spec =

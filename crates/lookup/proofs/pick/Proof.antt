@@ -1,7 +1,5 @@
 -- `pick` meets its contract: what `ordered_threshold` answers, or the colour for its threshold. Assumes nothing.
-use mathlib.Core.Path.{sym, ap, _∙_}
-use Rattle.lookup.specs.declared.Picked.the-variants as picked
-use Rattle.lookup.specs.Bracket.{pickIn, pickOf}
+use Rattle.lookup.proofs.AnswerLaws.{pick-accepted, pick-refused}
 use borrow.Author.Needs.{needs}
 use Rattle.lookup.proofs.pick.Statement.{statement}
 use Rattle.lookup.proofs.pick.Tie as tie
@@ -19,18 +17,16 @@ enum-known-number : tie.Need-enum-known-number
 enum-known-number c = search needs
 
 returns : tie.Need-returns
-unfolding pickOf
 returns c =
     let a = c .before .before .before .before .before .args in
     let t = c .before .before .before .before .ordered-threshold in
-    ap picked.Color (c .pick-at .ensures) ∙ ap (pickIn (a .bracket)) (sym (c .before .before .threshold .given .1) ∙ t .ensures)
+    pick-accepted (a .bracket) (a .kind) (a .x) (a .y) (t .result) (t .ensures) _ (c .before .before .threshold .given .1) _ (c .pick-at .ensures)
 
 returns-2 : tie.Need-returns-2
-unfolding pickOf
 returns-2 c =
     let a = c .before .before .before .before .args in
     let t = c .before .before .before .ordered-threshold in
-    ap (pickIn (a .bracket)) (sym (c .before .number .given .1) ∙ t .ensures)
+    pick-refused (a .bracket) (a .kind) (a .x) (a .y) (t .result) (t .ensures) _ (c .before .number .given .1)
 
 pub pick-spec : {M : Type 1} → statement M
 pick-spec =

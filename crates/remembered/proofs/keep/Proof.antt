@@ -6,9 +6,9 @@ use lib.ListN.{set}
 use Rattle.mixing.specs.Lerp.{Bytes}
 use Rattle.color.specs.declared.NormalizedColor.{NormalizedColor}
 use Rattle.lookup.specs.declared.Two.{Two}
-use Rattle.remembered.specs.Table.{Kept, ByRgb}
-use Rattle.remembered.proofs.TableLaws.{kept-more}
-use Rattle.remembered.proofs.ShortLaws.{shorts-table}
+use Rattle.remembered.specs.Table.{pairRoom, TableOf, ByRgb}
+use Rattle.remembered.proofs.TableLaws.{table-more}
+use Rattle.remembered.proofs.ShortLaws.{rows-table}
 use borrow.Author.Needs.{needs}
 use Rattle.remembered.proofs.keep.Statement.{statement}
 use Rattle.remembered.proofs.keep.Tie as tie
@@ -28,8 +28,8 @@ mul-memory c = search needs
 add-memory : tie.Need-add-memory
 add-memory c = search needs
 
-place-of-requires : tie.Need-place-of-requires
-place-of-requires c κs = search needs
+slot-of-requires : tie.Need-slot-of-requires
+slot-of-requires c κs = search needs
 
 mul-memory-2 : tie.Need-mul-memory-2
 mul-memory-2 c = search needs
@@ -37,15 +37,20 @@ mul-memory-2 c = search needs
 element-write-memory : tie.Need-element-write-memory
 element-write-memory c = search needs
 
-stored : (c : tie.After-place-of) (f : NormalizedColor → Two) → ByRgb f → c .before .before .before .before .args .pair ≡ f (c .before .before .before .before .args .c) → Kept f (c .before .before .before .before .args .memory .now)
-    → Kept f (set (c .before .before .before .before .args .memory .now) (c .place-of .result) (c .before .before .before .key-of .result * 68719476736 + c .before .before .number-of .result))
+stored : (c : tie.After-slot-of) (f : NormalizedColor → Two) → ByRgb f
+    → c .before .before .before .before .args .pair ≡ f (c .before .before .before .before .args .c)
+    → TableOf f (c .before .before .before .before .args .memory .now)
+    → TableOf f (set (c .before .before .before .before .args .memory .now) (c .slot-of .result)
+    (c .before .before .before .key-of .result * pairRoom + c .before .before .number-of .result))
 stored c f by e kept =
     let x = c .before .before .number-of in
-    subst (λ (key : ℕ). Kept f (set (c .before .before .before .before .args .memory .now) (c .place-of .result) (key * 68719476736 + x .result))) (sym (c .before .before .before .key-of .ensures .0))
-    (kept-more f _ kept by _ _ _ (bytes (c .before .before .before .before)) (c .place-of .ensures) (c .before .if1 .taken) (x .ensures (c .before .if1 .taken) ∙ e))
+    subst (λ (key : ℕ). TableOf f (set (c .before .before .before .before .args .memory .now) (c .slot-of .result) (key * pairRoom + x .result)))
+    (sym (c .before .before .before .key-of .ensures .0))
+    (table-more f _ kept by _ _ _ (bytes (c .before .before .before .before)) (c .slot-of .ensures) (c .before .if1 .taken)
+    (x .ensures (c .before .if1 .taken) ∙ e))
 
 returns : tie.Need-returns
-returns c = let j : c .place-of .result < 257 = omega (arith, c .place-of .ensures) in (stored c, λ g shorts. shorts-table g _ shorts _ _ j)
+returns c = let j : c .slot-of .result < 257 = omega (arith, c .slot-of .ensures) in (stored c, λ g shorts. rows-table g _ shorts _ _ j)
 
 returns-2 : tie.Need-returns-2
 returns-2 c = (λ f by e kept. kept, λ g shorts. shorts)
@@ -58,7 +63,7 @@ keep-spec =
     number-of-requires
     mul-memory
     add-memory
-    place-of-requires
+    slot-of-requires
     mul-memory-2
     element-write-memory
     returns

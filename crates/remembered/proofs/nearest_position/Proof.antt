@@ -3,7 +3,7 @@ use mathlib.Core.Path.{ap, _∙_}
 use Rattle.color.specs.Oklab.{oklabAt}
 use Rattle.lookup.specs.declared.Two.{Two}
 use Rattle.lookup.specs.declared.Second.the-variants.{Nothing}
-use Rattle.remembered.specs.Table.{nearestAlone, Kept}
+use Rattle.remembered.specs.Table.{nearestAlone, TableOf}
 use Rattle.remembered.proofs.TableLaws.{alone-by-rgb}
 use borrow.Author.Needs.{needs}
 use Rattle.remembered.proofs.nearest_position.Statement.{statement}
@@ -37,7 +37,7 @@ nearest-anew-requires c κs = search needs
 keep-requires : tie.Need-keep-requires
 keep-requires c κs = search needs
 
-kept : (c : tie.After-keep) → Kept (nearestAlone (oklabAt (start c .args .oklab .now)) (start c .args .count)) (c .keep .last .0)
+kept : (c : tie.After-keep) → TableOf (nearestAlone (oklabAt (start c .args .oklab .now)) (start c .args .count)) (c .keep .last .0)
 unfolding nearestAlone
 kept c =
     let s = start c in

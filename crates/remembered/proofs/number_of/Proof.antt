@@ -1,6 +1,7 @@
 -- `remembered::number_of` meets its contract. Assumes nothing.
 use Prim.Native.Nat.{_<_}
 use native.Mathlib.Omega.{arith}
+use Rattle.remembered.specs.Table.{positionRoom}
 use borrow.Author.Needs.{needs}
 use Rattle.remembered.proofs.TableLaws.{pair-is}
 use Rattle.remembered.proofs.number_of.Statement.{statement}
@@ -25,7 +26,7 @@ returns-3 : tie.Need-returns-3
 returns-3 c =
     let n = c .before .before .second-number in
     let pair = c .before .before .before .args .pair in
-    let l : n .result < 262144 = omega (arith, c .if2 .left) in
+    let l : n .result < positionRoom = omega (arith, c .if2 .left) in
     λ _. pair-is (pair .first) (n .result) (pair .second) l (n .ensures l)
 
 pub number-of-spec : {M : Type 1} → statement M

@@ -2,7 +2,7 @@
 use mathlib.Core.Path.{_∙_}
 use Rattle.shortlist.specs.Candidates.{Candidates, scaled}
 use Rattle.remembered.specs.Table.{nearestBoth}
-use Rattle.remembered.specs.Shorts.{KeptBoth}
+use Rattle.remembered.specs.Shorts.{TableAndRows}
 use Rattle.remembered.proofs.TableLaws.{both-by-rgb}
 use borrow.Author.Needs.{needs}
 use Rattle.remembered.proofs.pair_positions.Statement.{statement}
@@ -39,7 +39,7 @@ pair-anew-requires c κs = search needs
 keep-requires : tie.Need-keep-requires
 keep-requires c κs = search needs
 
-kept : (c : tie.After-keep) → KeptBoth (list c) (start c .args .width) (c .keep .last .0)
+kept : (c : tie.After-keep) → TableAndRows (list c) (start c .args .width) (c .keep .last .0)
 unfolding nearestBoth
 kept c =
     let k = c .keep .ensures in

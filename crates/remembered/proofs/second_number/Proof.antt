@@ -15,6 +15,9 @@ enum-told c = search needs
 returns : tie.Need-returns
 returns c = λ _. sym (c .enum-told .given .1)
 
+sub-if1 : tie.Need-sub-if1
+sub-if1 c = search needs
+
 add-result : tie.Need-add-result
 add-result c = search needs
 
@@ -26,4 +29,4 @@ returns-3 c = λ l. absurd (omega arith)
 
 pub second-number-spec : {M : Type 1} → statement M
 second-number-spec =
-    tie.close (tie.spec enum-known-second enum-told returns add-result returns-2 returns-3)
+    tie.close (tie.spec enum-known-second enum-told returns sub-if1 add-result returns-2 returns-3)

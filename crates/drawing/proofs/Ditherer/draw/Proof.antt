@@ -2,7 +2,7 @@
 use mathlib.Core.Path.{sym, _∙_}
 use Rattle.drawing.specs.Lent.{lent, drawingOf}
 use Rattle.drawing.proofs.TurnLaws.{turn-end, turn-none}
-use Rattle.remembered.proofs.TableLaws.{kept-none}
+use Rattle.remembered.proofs.TableLaws.{table-none}
 use Rattle.drawing.proofs.StepLaws.{remembers-none}
 use borrow.Author.Needs.{needs}
 use Rattle.drawing.proofs.Ditherer.draw.Statement.{statement}
@@ -18,7 +18,7 @@ draw-diffused-requires : tie.Need-draw-diffused-requires
 draw-diffused-requires c κs =
     let p = c .before .before .before .before .before .before .before .before .before .before .before .before .before .before .pre in
     let d = sym (c .before .before .before .before .before .is-diffusion .ensures) ∙ c .before .before .before .before .if1 .taken in
-    (record { is = c .before .before .before .before .before .before .linear-table .ensures }, p .0, d, p .1, p .2 d, kept-none _)
+    (record { is = c .before .before .before .before .before .before .linear-table .ensures }, p .0, d, p .1, p .2 d, table-none _)
 
 draw-each-requires : tie.Need-draw-each-requires
 draw-each-requires c κs =

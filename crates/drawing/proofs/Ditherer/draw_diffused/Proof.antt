@@ -6,7 +6,7 @@ use native.Mathlib.Omega.{arith}
 use borrow.Author.Needs.{needs}
 use Rattle.lists.proofs.FillLaws.{Filling, fill-begin}
 use Rattle.color.specs.Oklab.{oklabAt}
-use Rattle.remembered.specs.Table.{nearestAlone, Kept}
+use Rattle.remembered.specs.Table.{nearestAlone, TableOf}
 use Rattle.drawing.specs.Lent.{lent, drawingOf, pixelBytes}
 use Rattle.drawing.specs.Turns.{cellsBefore}
 use Rattle.drawing.proofs.OutputLaws.{out-more, out-all}
@@ -18,7 +18,7 @@ abbrev Inv-loop : tie.InvT-loop
 Inv-loop self zero linear reduction scale pixels colors oklab count memory₀ out₀ cells₀ size i₀ memory out cells i =
     Filling 4 (pixelBytes (drawingOf self zero (lent reduction scale pixels colors oklab count))) out₀ out i
     × (cells ≡ cellsBefore (drawingOf self zero (lent reduction scale pixels colors oklab count)) i)
-    × Kept (nearestAlone (oklabAt oklab) count) memory
+    × TableOf (nearestAlone (oklabAt oklab) count) memory
 
 abbrev μ-loop : tie.MeasureT-loop
 μ-loop self zero linear reduction scale pixels colors oklab count memory₀ out₀ cells₀ size i₀ memory out cells i = size - i

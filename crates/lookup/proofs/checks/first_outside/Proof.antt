@@ -35,7 +35,9 @@ in-range-requires c κs = search needs
 
 returns : tie.Need-returns Inv-loop μ-loop
 unfolding firstOutside
-returns c = search-found (c .before .before .before .before .loop .inv) (c .before .before .before .loop-test .taken) (ap not (sym (c .before .in-range .ensures)) ∙ c .if1 .taken)
+returns c =
+    search-found (c .before .before .before .before .loop .inv) (c .before .before .before .loop-test .taken)
+    (ap not (sym (c .before .in-range .ensures)) ∙ c .if1 .taken)
 
 add-i : tie.Need-add-i Inv-loop μ-loop
 add-i c = search needs
@@ -44,7 +46,9 @@ loop-less : tie.Need-loop-less Inv-loop μ-loop
 loop-less c = search needs
 
 loop-again : tie.Need-loop-again Inv-loop μ-loop
-loop-again c = search-next (c .before .before .before .before .loop .inv) (c .before .before .before .loop-test .taken) (ap not (sym (c .before .in-range .ensures)) ∙ c .if1 .left)
+loop-again c =
+    search-next (c .before .before .before .before .loop .inv) (c .before .before .before .loop-test .taken)
+    (ap not (sym (c .before .in-range .ensures)) ∙ c .if1 .left)
 
 returns-2 : tie.Need-returns-2 Inv-loop μ-loop
 unfolding firstOutside

@@ -21,7 +21,8 @@ returns-2 c =
     let a = c .before .before .before .before .before .before .before .args in
     let l = c .before .before .before .lengths-fit in
     let n = c .before .count-fits in
-    refused-count (a .reduced .now) (a .normalized .now) (a .oklab .now) (l .result) (l .ensures) (c .before .before .if1 .left) (n .result) (n .ensures) (c .if2 .taken)
+    refused-count (a .reduced .now) (a .normalized .now) (a .oklab .now) (l .result) (l .ensures) (c .before .before .if1 .left) (n .result) (n .ensures)
+    (c .if2 .taken)
 
 first-outside-requires : tie.Need-first-outside-requires
 first-outside-requires c κs = search needs
@@ -32,7 +33,8 @@ returns-3 c =
     let l = c .before .before .before .before .before .lengths-fit in
     let n = c .before .before .before .count-fits in
     let k = c .before .first-outside in
-    refused-range (a .reduced .now) (a .normalized .now) (a .oklab .now) (l .result) (l .ensures) (c .before .before .before .before .if1 .left) (n .result) (n .ensures) (c .before .before .if2 .left) (k .result) (k .ensures) (c .if3 .taken)
+    refused-range (a .reduced .now) (a .normalized .now) (a .oklab .now) (l .result) (l .ensures) (c .before .before .before .before .if1 .left) (n .result)
+    (n .ensures) (c .before .before .if2 .left) (k .result) (k .ensures) (c .if3 .taken)
 
 returns-4 : tie.Need-returns-4
 returns-4 c =
@@ -40,7 +42,8 @@ returns-4 c =
     let l = c .before .before .before .before .before .lengths-fit in
     let n = c .before .before .before .count-fits in
     let k = c .before .first-outside in
-    refused-none (a .reduced .now) (a .normalized .now) (a .oklab .now) (l .result) (l .ensures) (c .before .before .before .before .if1 .left) (n .result) (n .ensures) (c .before .before .if2 .left) (k .result) (k .ensures) (c .if3 .left)
+    refused-none (a .reduced .now) (a .normalized .now) (a .oklab .now) (l .result) (l .ensures) (c .before .before .before .before .if1 .left) (n .result)
+    (n .ensures) (c .before .before .if2 .left) (k .result) (k .ensures) (c .if3 .left)
 
 pub list-refusal-spec : {M : Type 1} → statement M
 list-refusal-spec =

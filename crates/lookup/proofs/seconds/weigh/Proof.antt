@@ -22,7 +22,8 @@ returns c =
     let t = c .before .before .before .lerp in
     let s = c .before .before .is-share in
     let x = c .before .mix-residual in
-    weighed-is (a .best) (c .improve .result) (a .k) (a .a) (a .b) (a .color) (t .result) (s .result) (x .result) (t .ensures) (s .ensures) (x .ensures) (c .improve .ensures)
+    weighed-is (a .best) (c .improve .result) (a .k) (a .a) (a .b) (a .color) (t .result) (s .result) (x .result) (t .ensures) (s .ensures) (x .ensures)
+    (c .improve .ensures)
 
 pub weigh-spec : {M : Type 1} → statement M
 weigh-spec =

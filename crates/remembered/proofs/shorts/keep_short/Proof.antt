@@ -34,8 +34,12 @@ returns-2 c =
     let s = c .before .before .before .before in
     let at = c .before .before .row-of .ensures in
     let few = c .before .before .before .if1 .left in
-    let low : (i : ℕ) → i < s .args .m → getD (s .args .positions .now) i 0 < 65536 = λ i h. let l : getD (s .args .positions .now) i 0 < s .args .n = s .pre .4 i h in omega arith in
-    (simp length-set (c .copy-in .ensures .room), row-behind _ (s .args .a) (s .args .m) _ _ _ at (c .copy-in .ensures) _, λ f short shorts is. row-more _ (s .args .a) (s .args .m) _ _ _ at (c .copy-in .ensures) f short shorts (s .pre .2) low is)
+    let low : (i : ℕ) → i < s .args .m → getD (s .args .positions .now) i 0 < 65536 =
+    λ i h. let l : getD (s .args .positions .now) i 0 < s .args .n = s .pre .4 i h in omega arith in (
+      simp length-set (c .copy-in .ensures .room),
+      row-behind _ (s .args .a) (s .args .m) _ _ _ at (c .copy-in .ensures) _,
+      λ f short shorts is. row-more _ (s .args .a) (s .args .m) _ _ _ at (c .copy-in .ensures) f short shorts (s .pre .2) low is,
+    )
 
 pub keep-short-spec : {M : Type 1} → statement M
 keep-short-spec =

@@ -1,7 +1,7 @@
--- `seconds::normal_at` meets its contract: the entry that is read, through the table. Assumes nothing.
+-- `remembered::seconds::normal_at` meets its contract: the entry that is read, through the table. Assumes nothing.
 use borrow.Author.Needs.{needs}
-use Rattle.lookup.proofs.seconds.normal_at.Statement.{statement}
-use Rattle.lookup.proofs.seconds.normal_at.Tie as tie
+use Rattle.remembered.proofs.seconds.normal_at.Statement.{statement}
+use Rattle.remembered.proofs.seconds.normal_at.Tie as tie
 
 rgba-at-requires : tie.Need-rgba-at-requires
 rgba-at-requires c κs = search needs
