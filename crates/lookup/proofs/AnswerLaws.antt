@@ -14,7 +14,7 @@ use Rattle.lists.specs.Least.{Least}
 use Rattle.lists.proofs.Bools.{holds}
 use Rattle.replies.specs.Replies.{Reply, firstReply, risingFrom, Lowest}
 use Rattle.replies.specs.Answers.{Answers}
-use Rattle.replies.proofs.AnswerLaws.{answered, answers}
+use Rattle.replies.proofs.AnswerLaws.{answered, answers-lowest, value-refused, value-granted}
 use Rattle.replies.proofs.ReplyLaws.{reply-none}
 use Rattle.replies.proofs.LowestLaws.{lowest-is}
 use Rattle.color.specs.declared.NormalizedColor.{NormalizedColor}
@@ -28,18 +28,15 @@ use Rattle.conversion.proofs.OklabLaws.{ranged}
 use Rattle.mixing.specs.Lerp.{Bytes}
 use Rattle.patterns.specs.declared.Thresholded.{Thresholded}
 use Rattle.patterns.specs.declared.Thresholded.the-variants as thresholded
-use Rattle.patterns.specs.Kinds.{isKind, isOrdered}
-use Rattle.patterns.specs.Thresholds.{thresholdAt, thresholdOf}
 use Rattle.patterns.specs.Thresholds as patterns
-use Rattle.patterns.proofs.Numbers.{kind-is, ordered-is}
-use Rattle.patterns.proofs.Thresholds as thresholds
+use Rattle.patterns.specs.Thresholds.{thresholdReplies, thresholdAnswer, OrderedThresholdAnswered}
 use Rattle.shortlist.specs.Candidates.{flat}
 use Rattle.shortlist.specs.Nearest.{distances, nearestIn, nearestOf}
 use Rattle.shortlist.proofs.NearestLaws.{nearest-least}
 use Rattle.lookup.specs.Second.{nearestTwoOf, NearestTwo}
 use Rattle.lookup.specs.Bracket.{bracketOf, pickAt}
 use Rattle.lookup.specs.Lists.{listReplies, listNumber}
-use Rattle.lookup.specs.Answers.{numberOf, numberOfTwo, numberOfBracket, numberOfPicked, pickReplies}
+use Rattle.lookup.specs.Answers.{numberOf, numberOfTwo, numberOfBracket, numberOfPicked}
 use Rattle.lookup.specs.Answers.{nearestAnswer, nearestTwoAnswer, bracketAnswer, pickAnswer, FlatNearest, FlatTwo, FlatBracket, PickedAt}
 use Rattle.lookup.specs.declared.Two.{Two}
 use Rattle.lookup.specs.declared.Bracket.{Bracket}
@@ -54,28 +51,6 @@ use Rattle.lookup.specs.declared.Picked.the-variants as picked
 use Rattle.lookup.proofs.ListLaws.{accepted}
 use Rattle.lookup.proofs.TwoLaws.{nearest-two-is, nearest-two-only}
 
--- ---- any answer by its number: with 0 a result, else the refusal with the number
-module _ {A : Type 0} (number : A → ℕ) (replies : List Reply) (answer refusal : ℕ → A) (accepting : number (answer 0) ≡ 0)
-    (refusing : (n : ℕ) → answer (suc n) ≡ refusal (suc n)) (own : (n : ℕ) → number (refusal n) ≡ n) (n : ℕ) (e : n ≡ firstReply replies) where
-  own-number : (m : ℕ) → number (answer m) ≡ m
-  own-number zero = accepting
-  own-number (suc m) = ap number (refusing m) ∙ own (suc m)
-
-  pub refused : (n ≡ 0 → ⊥) → Answers number replies answer (refusal n)
-  refused h = answers number replies answer own-number (go n h ∙ ap answer e)
-    where
-      go : (m : ℕ) → (m ≡ 0 → ⊥) → refusal m ≡ answer m
-      go zero h = absurd (h refl)
-      go (suc m) h = sym (refusing m)
-
-  pub granted : n ≡ 0 → (r : A) → r ≡ answer 0 → Answers number replies answer r
-  granted z r g = answers number replies answer own-number (g ∙ ap answer (sym z ∙ e))
-
--- the number of an answer is the lowest that applies, where the replies rise
-lowest-number : {A : Type 0} {number : A → ℕ} {replies : List Reply} {answer : ℕ → A} {r : A} → Answers number replies answer r → T (risingFrom 0 replies)
-    → Lowest replies (number r)
-lowest-number {replies = replies} a h = subst (Lowest replies) (sym (a .number)) (lowest-is replies h)
-
 -- what a colour is converted to is from -2 to 2
 pub in-range : (color : NormalizedColor) (o : Oklab) → o ≡ toOklab color → color .0 .r < 256 → color .0 .g < 256 → color .0 .b < 256 → T (allInRange o)
 in-range color o e R G B = subst (λ (p : Oklab). T (allInRange p)) (sym e) (range-all-in (toOklab color) (ranged color R G B))
@@ -87,17 +62,16 @@ module _ (reduced normalized : List ℕ) (oklab : List Float) where
     module _ (n : ℕ) (e : n ≡ listNumber reduced normalized oklab) where
       pub nearest-refused : (n ≡ 0 → ⊥) → FlatNearest reduced normalized oklab color (found.Refused n)
       unfolding listNumber
-      nearest-refused = refused numberOf _ (nearestAnswer reduced normalized oklab color) found.Refused refl (λ m. refl) (λ m. refl) n e
+      nearest-refused = value-refused numberOf _ _ found.Refused refl (λ m. refl) e
 
       pub nearest-accepted : n ≡ 0 → (o : Oklab) (k : ℕ) → o ≡ toOklab color → k ≡ nearestIn (oklabAt oklab) (length reduced / 4) o
           → FlatNearest reduced normalized oklab color (found.At k)
       unfolding listNumber
       nearest-accepted z o k p q =
-          granted numberOf _ (nearestAnswer reduced normalized oklab color) found.Refused refl (λ m. refl) (λ m. refl) n e z (found.At k)
-          (ap found.At (q ∙ ap (nearestIn (oklabAt oklab) (length reduced / 4)) p))
+          value-granted numberOf _ _ found.Refused refl (λ m. refl) (sym e ∙ z) (ap found.At (q ∙ ap (nearestIn (oklabAt oklab) (length reduced / 4)) p))
 
     pub nearest-lowest : {r : Found} → FlatNearest reduced normalized oklab color r → Lowest (listReplies reduced normalized oklab) (numberOf r)
-    nearest-lowest a = lowest-number a tt
+    nearest-lowest a = answers-lowest _ _ _ tt a
 
     -- a position is answered of an accepted list
     pub nearest-given : {x : Found} {k : ℕ} → FlatNearest reduced normalized oklab color x → x ≡ found.At k
@@ -122,32 +96,32 @@ module _ (reduced normalized : List ℕ) (oklab : List Float) where
       module _ (n : ℕ) (e : n ≡ listNumber reduced normalized oklab) where
         pub two-refused : (n ≡ 0 → ⊥) → FlatTwo reduced normalized oklab color width (two.Refused n)
         unfolding listNumber
-        two-refused = refused numberOfTwo _ (nearestTwoAnswer reduced normalized oklab color width) two.Refused refl (λ m. refl) (λ m. refl) n e
+        two-refused = value-refused numberOfTwo _ _ two.Refused refl (λ m. refl) e
 
         pub two-accepted : n ≡ 0 → (o : Oklab) (t : Two) → o ≡ toOklab color → t ≡ nearestTwoOf (flat reduced normalized oklab) width o color
             → FlatTwo reduced normalized oklab color width (two.At t)
         unfolding listNumber
         two-accepted z o t p q =
-            granted numberOfTwo _ (nearestTwoAnswer reduced normalized oklab color width) two.Refused refl (λ m. refl) (λ m. refl) n e z (two.At t)
+            value-granted numberOfTwo _ _ two.Refused refl (λ m. refl) (sym e ∙ z)
             (ap two.At (q ∙ ap (λ (u : Oklab). nearestTwoOf (flat reduced normalized oklab) width u color) p))
 
         pub bracket-refused : (n ≡ 0 → ⊥) → FlatBracket reduced normalized oklab color width (bracket.Refused n)
         unfolding listNumber
-        bracket-refused = refused numberOfBracket _ (bracketAnswer reduced normalized oklab color width) bracket.Refused refl (λ m. refl) (λ m. refl) n e
+        bracket-refused = value-refused numberOfBracket _ _ bracket.Refused refl (λ m. refl) e
 
         pub bracket-accepted : n ≡ 0 → (o : Oklab) (b : Bracket) → o ≡ toOklab color → b ≡ bracketOf (flat reduced normalized oklab) width o color
             → FlatBracket reduced normalized oklab color width (bracket.Of b)
         unfolding listNumber
         bracket-accepted z o b p q =
-            granted numberOfBracket _ (bracketAnswer reduced normalized oklab color width) bracket.Refused refl (λ m. refl) (λ m. refl) n e z (bracket.Of b)
+            value-granted numberOfBracket _ _ bracket.Refused refl (λ m. refl) (sym e ∙ z)
             (ap bracket.Of (q ∙ ap (λ (u : Oklab). bracketOf (flat reduced normalized oklab) width u color) p))
 
       pub two-lowest : {r : FoundTwo} → FlatTwo reduced normalized oklab color width r → Lowest (listReplies reduced normalized oklab) (numberOfTwo r)
-      two-lowest a = lowest-number a tt
+      two-lowest a = answers-lowest _ _ _ tt a
 
       pub bracket-lowest : {r : FoundBracket} → FlatBracket reduced normalized oklab color width r
           → Lowest (listReplies reduced normalized oklab) (numberOfBracket r)
-      bracket-lowest a = lowest-number a tt
+      bracket-lowest a = answers-lowest _ _ _ tt a
 
       -- two positions are answered of an accepted list
       pub two-given : {x : FoundTwo} {t : Two} → FlatTwo reduced normalized oklab color width x → x ≡ two.At t
@@ -178,48 +152,26 @@ module _ (reduced normalized : List ℕ) (oklab : List Float) where
           nearest-two-only (flat reduced normalized oklab) width (toOklab color) color (A .positive) (A .ranged .range)
 
 -- ---- pick
-pub pick-lowest : (b : Bracket) (kind x y : ℕ) {r : Picked} → PickedAt b kind x y r → Lowest (pickReplies kind) (numberOfPicked r)
-pick-lowest b kind x y a = lowest-number a tt
+pub pick-lowest : (b : Bracket) (kind x y : ℕ) {r : Picked} → PickedAt b kind x y r → Lowest (thresholdReplies kind) (numberOfPicked r)
+pick-lowest b kind x y a = answers-lowest _ _ _ tt a
 
-module _ (b : Bracket) (kind x y : ℕ) (t : Thresholded) (e : t ≡ thresholdOf kind x y) where
-  -- its number is that of the threshold
-  threshold-number : patterns.numberOf t ≡ firstReply (pickReplies kind)
-  threshold-number =
-      ap patterns.numberOf e ∙ thresholds.number-is kind x y ∙ (λ i. cond (sym (kind-is kind) i) (cond (sym (ordered-is kind) i) 0 9) 1)
-      ∙ turned (isKind kind) (isOrdered kind)
-    where
-      turned : (s u : Bool) → _≡_ {A = ℕ} (cond s (cond u 0 9) 1) (cond (not s) 1 (cond (not u) 9 0))
-      turned true true = refl
-      turned true false = refl
-      turned false u = refl
-
-  -- where none applies, it is a threshold
-  threshold-given : firstReply (pickReplies kind) ≡ 0 → t ≡ thresholded.At (thresholdAt kind x y)
-  threshold-given z =
-      let none = reply-none (pickReplies kind) tt z in
-      e ∙ thresholds.ordered-answer kind x y (holds (not-false (isOrdered kind) (none .1 .0)))
+module _ (b : Bracket) (kind x y : ℕ) {t : Thresholded} (a : OrderedThresholdAnswered kind x y t) where
+  -- what the threshold is with the number of the replies, which are its own
+  told : {n : ℕ} → patterns.numberOf t ≡ n → t ≡ thresholdAnswer kind x y n
+  told e = a .answer ∙ ap (thresholdAnswer kind x y) e
 
   pub pick-refused : (n : ℕ) → t ≡ thresholded.Refused n → PickedAt b kind x y (picked.Refused n)
   pick-refused n q =
-      refused numberOfPicked _ (pickAnswer b kind x y) picked.Refused refl (λ m. refl) (λ m. refl) n number
-      (λ z. never (sym q ∙ threshold-given (sym number ∙ z)))
+      value-refused numberOfPicked _ _ picked.Refused refl (λ m. refl) (ap patterns.numberOf (sym q) ∙ a .number)
+      (λ z. never (sym q ∙ told (ap patterns.numberOf q ∙ z)))
     where
-      number : n ≡ firstReply (pickReplies kind)
-      number = ap patterns.numberOf (sym q) ∙ threshold-number
-
       never : {v : Float} → thresholded.Refused n ≡ thresholded.At v → ⊥
       never h = let z : _≡_ {A = ℕ} 0 1 = cc in omega arith
 
   pub pick-accepted : (v : Float) → t ≡ thresholded.At v → (c : ReducedColor) → c ≡ pickAt b v → PickedAt b kind x y (picked.Color c)
   pick-accepted v q c p =
-      granted numberOfPicked _ (pickAnswer b kind x y) picked.Refused refl (λ m. refl) (λ m. refl) 0 number refl (picked.Color c)
-      (ap picked.Color (p ∙ ap (pickAt b) value))
+      value-granted numberOfPicked _ _ picked.Refused refl (λ m. refl) (sym (a .number) ∙ ap patterns.numberOf q)
+      (ap picked.Color (p ∙ ap (pickAt b) (same (sym q ∙ told (ap patterns.numberOf q)))))
     where
-      number : 0 ≡ firstReply (pickReplies kind)
-      number = ap patterns.numberOf (sym q) ∙ threshold-number
-
-      value : v ≡ thresholdAt kind x y
-      value = same (sym q ∙ threshold-given (sym number))
-        where
-          same : {w : Float} → thresholded.At v ≡ thresholded.At w → v ≡ w
-          same h = cc
+      same : {w : Float} → thresholded.At v ≡ thresholded.At w → v ≡ w
+      same h = cc

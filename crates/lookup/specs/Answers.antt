@@ -2,16 +2,13 @@
 -- call, which its contract and its theorem of one result share (proofs/Unique). Definitions only.
 -- Written from document 01, "Bounds and replies": "The lowest number that applies is given", "A refusal returns no colour."; "Which places take which form":
 -- "Where an answer is an enum, a definition tells you this paper's number and values for each of its cases."
-use Prim.Native.Nat.{ℕ, zero, suc}
-use mathlib.Core.List.{List, [], _∷_}
-use mathlib.Core.Bool.{not}
+use Prim.Native.Nat.{ℕ}
+use mathlib.Core.List.{List}
 use lib.Ieee.{Float}
-use Rattle.replies.specs.Replies.{_if_, Reply}
-use Rattle.replies.specs.Answers.{Answers}
+use Rattle.replies.specs.Answers.{Answers, valueOr}
 use Rattle.color.specs.declared.NormalizedColor.{NormalizedColor}
 use Rattle.conversion.specs.Oklab.{toOklab}
-use Rattle.patterns.specs.Kinds.{isKind, isOrdered}
-use Rattle.patterns.specs.Thresholds.{thresholdAt}
+use Rattle.patterns.specs.Thresholds.{thresholdAt, thresholdReplies}
 use Rattle.shortlist.specs.Candidates.{flat}
 use Rattle.shortlist.specs.Nearest.{nearestOf}
 use Rattle.lookup.specs.Second.{nearestTwoOf}
@@ -44,31 +41,23 @@ abbrev pub numberOfPicked : Picked → ℕ
 numberOfPicked (picked.Color c) = 0
 numberOfPicked (picked.Refused n) = n
 
--- the numbers of `pick`, and when each applies: to a kind, whatever the colours are. Those of the lookups are `listReplies`
-abbrev pub pickReplies : ℕ → List Reply
-pickReplies kind = (1 if not (isKind kind)) ∷ (9 if not (isOrdered kind)) ∷ []
-
--- ---- what is answered with a number
+-- ---- what is answered with a number. The numbers of the lookups, and when each applies, are `listReplies`; `pick` has those of `ordered_threshold`
 
 -- with 0 the position of the nearest entry
 abbrev pub nearestAnswer : (reduced normalized : List ℕ) → List Float → NormalizedColor → ℕ → Found
-nearestAnswer reduced normalized oklab color zero = found.At (nearestOf (flat reduced normalized oklab) (toOklab color))
-nearestAnswer reduced normalized oklab color (suc n) = found.Refused (suc n)
+nearestAnswer reduced normalized oklab color = valueOr (found.At (nearestOf (flat reduced normalized oklab) (toOklab color))) found.Refused
 
 -- with 0 the positions of the nearest two
 abbrev pub nearestTwoAnswer : (reduced normalized : List ℕ) → List Float → NormalizedColor → (width : ℕ) → ℕ → FoundTwo
-nearestTwoAnswer reduced normalized oklab color width zero = two.At (nearestTwoOf (flat reduced normalized oklab) width (toOklab color) color)
-nearestTwoAnswer reduced normalized oklab color width (suc n) = two.Refused (suc n)
+nearestTwoAnswer reduced normalized oklab color width = valueOr (two.At (nearestTwoOf (flat reduced normalized oklab) width (toOklab color) color)) two.Refused
 
 -- with 0 the bracket
 abbrev pub bracketAnswer : (reduced normalized : List ℕ) → List Float → NormalizedColor → (width : ℕ) → ℕ → FoundBracket
-bracketAnswer reduced normalized oklab color width zero = bracket.Of (bracketOf (flat reduced normalized oklab) width (toOklab color) color)
-bracketAnswer reduced normalized oklab color width (suc n) = bracket.Refused (suc n)
+bracketAnswer reduced normalized oklab color width = valueOr (bracket.Of (bracketOf (flat reduced normalized oklab) width (toOklab color) color)) bracket.Refused
 
 -- with 0 the colour that the threshold of the place picks
 abbrev pub pickAnswer : Bracket → (kind x y : ℕ) → ℕ → Picked
-pickAnswer b kind x y zero = picked.Color (pickAt b (thresholdAt kind x y))
-pickAnswer b kind x y (suc n) = picked.Refused (suc n)
+pickAnswer b kind x y = valueOr (picked.Color (pickAt b (thresholdAt kind x y))) picked.Refused
 
 -- ---- the promises: `flat_nearest`, `flat_nearest_two`, `flat_ordered_bracket`, `pick`
 abbrev pub FlatNearest : (reduced normalized : List ℕ) → List Float → NormalizedColor → Found → Type 0
@@ -83,4 +72,4 @@ FlatBracket reduced normalized oklab color width =
     Answers numberOfBracket (listReplies reduced normalized oklab) (bracketAnswer reduced normalized oklab color width)
 
 abbrev pub PickedAt : Bracket → (kind x y : ℕ) → Picked → Type 0
-PickedAt b kind x y = Answers numberOfPicked (pickReplies kind) (pickAnswer b kind x y)
+PickedAt b kind x y = Answers numberOfPicked (thresholdReplies kind) (pickAnswer b kind x y)

@@ -1,11 +1,14 @@
 -- An answer by its number: it is what is answered with the number of the first reply that applies, whatever is that has the form, and the form leaves one
--- answer. Assumes nothing.
-use mathlib.Core.Path.{_≡_, sym, ap, _∙_}
+-- answer; its number is the lowest that applies where the replies rise. And where one case holds a result: a refusal with the number, the result with 0.
+-- Assumes nothing.
+use mathlib.Core.Path.{_≡_, refl, sym, ap, _∙_, subst}
 use mathlib.Core.List.{List}
-use Prim.Native.Nat.{ℕ}
-use Rattle.replies.specs.Replies.{Reply, firstReply}
-use Rattle.replies.specs.Answers.{Answers}
+use Prim.Native.Nat.{ℕ, zero, suc}
+use lib.Dec.{T}
+use Rattle.replies.specs.Replies.{Reply, firstReply, risingFrom, Lowest}
+use Rattle.replies.specs.Answers.{Answers, valueOr}
 use Rattle.replies.specs.Unique.{Unique}
+use Rattle.replies.proofs.LowestLaws.{lowest-is}
 
 module _ {A : Type 0} (numberOf : A → ℕ) (replies : List Reply) (answerOf : ℕ → A) where
   -- the answer, from the form
@@ -20,3 +23,30 @@ module _ {A : Type 0} (numberOf : A → ℕ) (replies : List Reply) (answerOf : 
 
   pub answers-only : Unique (λ (r : A). Answers numberOf replies answerOf r)
   answers-only x y a b = answered a ∙ sym (answered b)
+
+  -- of rising replies the number is the lowest that applies
+  pub answers-lowest : T (risingFrom 0 replies) → {r : A} → Answers numberOf replies answerOf r → Lowest replies (numberOf r)
+  answers-lowest h a = subst (Lowest replies) (sym (a .number)) (lowest-is replies h)
+
+-- ---- one case holds a result
+module _ {A : Type 0} (numberOf : A → ℕ) (replies : List Reply) (value : A) (refused : ℕ → A) (zeroth : numberOf value ≡ 0)
+    (own : (n : ℕ) → numberOf (refused n) ≡ n) where
+  own-number : (n : ℕ) → numberOf (valueOr value refused n) ≡ n
+  own-number zero = zeroth
+  own-number (suc n) = own (suc n)
+
+  -- the form, from the answer
+  pub value-promised : {r : A} → r ≡ valueOr value refused (firstReply replies) → Answers numberOf replies (valueOr value refused) r
+  value-promised e = answers numberOf replies (valueOr value refused) own-number e
+
+  -- a number that is not 0 is refused with
+  pub value-refused : {n : ℕ} → n ≡ firstReply replies → (n ≡ 0 → ⊥) → Answers numberOf replies (valueOr value refused) (refused n)
+  value-refused {n} e h = value-promised (go n h ∙ ap (valueOr value refused) e)
+    where
+      go : (n : ℕ) → (n ≡ 0 → ⊥) → refused n ≡ valueOr value refused n
+      go zero h = absurd (h refl)
+      go (suc n) h = refl
+
+  -- with 0 the result is answered
+  pub value-granted : firstReply replies ≡ 0 → {r : A} → r ≡ value → Answers numberOf replies (valueOr value refused) r
+  value-granted z e = value-promised (e ∙ ap (valueOr value refused) (sym z))

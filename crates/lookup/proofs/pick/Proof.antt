@@ -20,13 +20,13 @@ returns : tie.Need-returns
 returns c =
     let a = c .before .before .before .before .before .args in
     let t = c .before .before .before .before .ordered-threshold in
-    pick-accepted (a .bracket) (a .kind) (a .x) (a .y) (t .result) (t .ensures) _ (c .before .before .threshold .given .1) _ (c .pick-at .ensures)
+    pick-accepted (a .bracket) (a .kind) (a .x) (a .y) (t .ensures) _ (c .before .before .threshold .given .1) _ (c .pick-at .ensures)
 
 returns-2 : tie.Need-returns-2
 returns-2 c =
     let a = c .before .before .before .before .args in
     let t = c .before .before .before .ordered-threshold in
-    pick-refused (a .bracket) (a .kind) (a .x) (a .y) (t .result) (t .ensures) _ (c .before .number .given .1)
+    pick-refused (a .bracket) (a .kind) (a .x) (a .y) (t .ensures) _ (c .before .number .given .1)
 
 pub pick-spec : {M : Type 1} → statement M
 pick-spec =
