@@ -15,8 +15,7 @@ use Rattle.replies.specs.Replies.{Reply, _if_, firstReply, Lowest, after, NoneA
 use Rattle.replies.specs.Unique.{Unique}
 use Rattle.lists.proofs.Bools.{or-split, equals}
 use Rattle.replies.proofs.ReplyLaws.{reply-zero, reply-none, reply-at, reply-front, reply-upto, after-refused}
-use Rattle.replies.proofs.LowestLaws.{lowest-is}
-use Rattle.replies.proofs.AnswerLaws.{answers, answers-only}
+use Rattle.replies.proofs.AnswerLaws.{answers, answers-only, answers-lowest, value-number, value-other}
 use Rattle.picture.specs.Bounds.{lentWrong}
 use Rattle.picture.proofs.BoundLaws.{sized, lent-so}
 use Rattle.candidates.specs.Rooms.{placesWith, oklabWith, tooMany, Collects}
@@ -70,8 +69,7 @@ module _ (x : Asked) where
 
   -- what is answered with a number has that number
   own : (n : ℕ) → numberOf (answerOf x n) ≡ n
-  own zero = refl
-  own (suc n) = refl
+  own = value-number numberOf (replies x) _ Refused refl (λ n. refl)
 
   -- by the number
   call-is : {r : CandidateCount} {places : List ℕ} {oklab : List Float} (n : ℕ) → firstReply (replies x) ≡ n → r ≡ answerOf x n
@@ -86,15 +84,11 @@ module _ (x : Asked) where
 
   pub call-refused : {r : ℕ} → r ≡ firstReply checked → (r ≡ 0 → ⊥) → CandidateColors x (Refused r) (x .places) (x .oklab)
   call-refused {r} e n =
-      call-is r (reply-front checked (7 if full ∷ []) (λ z. n (e ∙ z)) ∙ sym e) (refused r n)
+      call-is r (reply-front checked (7 if full ∷ []) (λ z. n (e ∙ z)) ∙ sym e) (value-other _ Refused r n)
       (after-refused r (placesWith cs (x .places)) (x .places) n
       ∙ ap (λ (b : Bool). cond b (replicate (length (x .places)) 0) (after r (placesWith cs (x .places)) (x .places))) (sym (ne-eqb r 7 not-seven)))
       (after-refused r (oklabWith (x .scale) cs (x .oklab)) (x .oklab) n)
     where
-      refused : (r : ℕ) → (r ≡ 0 → ⊥) → Refused r ≡ answerOf x r
-      refused zero n = absurd (n refl)
-      refused (suc r) n = refl
-
       not-seven : r ≡ 7 → ⊥
       not-seven q = omega (arith, e, reply-upto 3 checked tt)
 
@@ -120,7 +114,7 @@ module _ (x : Asked) where
 
   -- ---- the number, and one result
   pub number-is : {r : CandidateCount} {places : List ℕ} {oklab : List Float} → CandidateColors x r places oklab → Lowest (replies x) (numberOf r)
-  number-is p = subst (Lowest (replies x)) (sym (p .answer .number)) (lowest-is (replies x) tt)
+  number-is p = answers-lowest _ _ _ tt (p .answer)
 
   pub colors-only : Unique (λ (y : CandidateCount × List ℕ × List Float). CandidateColors x (y .0) (y .1) (y .2))
   colors-only y z p q =

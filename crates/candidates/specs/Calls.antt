@@ -1,7 +1,7 @@
 -- What `candidate_colors_in` answers, and what its rooms hold afterwards. Definitions only.
 -- Written from document 01, "Bounds and replies": the rows 1, 2, 3 and 7 of its table, "Candidate places 0..65,536, four bytes each, with three f32
 -- each beside them", "Buffers have exactly the length needed", "The lowest number that applies is given".
-use Prim.Native.Nat.{ℕ, zero, suc, _*_, _/_, _%_}
+use Prim.Native.Nat.{ℕ, _*_, _/_, _%_}
 use mathlib.Core.Path.{_≡_}
 use mathlib.Core.Bool.{Bool, cond, not, _||_}
 use mathlib.Core.List.{List, [], _∷_, _++_}
@@ -10,7 +10,7 @@ use lib.Ieee.{Float}
 use lib.ListN.{length, replicate}
 use Rattle.color.specs.declared.ReducedColor.{ReducedColor}
 use Rattle.replies.specs.Replies.{Reply, _if_, after}
-use Rattle.replies.specs.Answers.{Answers}
+use Rattle.replies.specs.Answers.{Answers, valueOr}
 use Rattle.mixing.specs.Widths.{isShift}
 use Rattle.picture.specs.Bounds.{sizeWrong, lentWrong}
 use Rattle.picture.specs.Pixels.{reducedBy}
@@ -66,8 +66,7 @@ numberOf (Refused n) = n
 
 -- what is answered with a number
 abbrev pub answerOf : Asked → ℕ → CandidateCount
-answerOf x zero = Count (length (candidatesIn x))
-answerOf x (suc n) = Refused (suc n)
+answerOf x = valueOr (Count (length (candidatesIn x))) Refused
 
 -- the places after number n: the candidates; all 0 after 7; else as they were
 abbrev pub placesAfter : Asked → ℕ → List ℕ

@@ -24,10 +24,11 @@ use Rattle.color.specs.Oklab.{oklabAt}
 use Rattle.conversion.specs.Oklab.{toOklab}
 use Rattle.patterns.specs.Kinds.{isKind}
 use Rattle.patterns.proofs.Numbers.{kind-is}
+use Rattle.patterns.specs.Thresholds.{thresholdReplies}
 use Rattle.shortlist.specs.Candidates.{flat}
 use Rattle.shortlist.proofs.NearestLaws.{nearest-inside}
 use Rattle.lookup.specs.Lists.{listReplies}
-use Rattle.lookup.specs.Answers.{pickReplies, bracketAnswer, pickAnswer, FlatNearest, FlatTwo, FlatBracket, PickedAt}
+use Rattle.lookup.specs.Answers.{bracketAnswer, pickAnswer, FlatNearest, FlatTwo, FlatBracket, PickedAt}
 use Rattle.lookup.specs.declared.Second.{Second}
 use Rattle.lookup.specs.declared.Second.the-variants as second
 use Rattle.lookup.specs.declared.Two.{Two}
@@ -126,7 +127,7 @@ module _ (dark light : List ℕ) (ratio : Float) (kind x y : ℕ) (chosen : List
         → PickedAt (record { dark = d; light = l; ratio = ratio }) kind x y p → p ≡ q → pickRooms dark light ratio kind x y chosen ≡ q
     unfolding pickRooms
     pick-is e d l D L p q a b =
-        let number : firstReply (badgePickReplies dark light kind chosen) ≡ firstReply (pickReplies kind) = rw (known, e) in
+        let number : firstReply (badgePickReplies dark light kind chosen) ≡ firstReply (thresholdReplies kind) = rw (known, e) in
         (λ i. pickAnswer (record { dark = sym D i; light = sym L i; ratio = ratio }) kind x y (number i)) ∙ sym (answered _ _ _ a) ∙ b
 
 -- ---- the numbers are the lowest that apply

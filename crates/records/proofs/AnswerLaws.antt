@@ -14,7 +14,7 @@ use lib.Ieee.{Float}
 use Rattle.lists.proofs.Bools.{is-true}
 use Rattle.replies.specs.Replies.{Lowest, firstReply}
 use Rattle.replies.proofs.LowestLaws.{lowest-is}
-use Rattle.replies.proofs.AnswerLaws.{answers}
+use Rattle.replies.proofs.AnswerLaws.{value-promised, value-refused}
 use Rattle.color.specs.declared.CandidateColor.{CandidateColor}
 use Rattle.color.specs.declared.NormalizedColor.{NormalizedColor}
 use Rattle.color.specs.declared.Oklab.{Oklab}
@@ -72,58 +72,41 @@ unfolding numberBy countFits
 number-none list h l r = rw (lt-ltb 0 (length list) h, le-ltb 65536 (length list) l, is-true (rangedTo list (length list)) r)
 
 -- ---- what is answered with the number of a list has the promise: it has that number itself
+two-zeroth : (list : List CandidateColor) (a : ℕ) (s : Second) → numberOfRecords (recordsAt list a s) ≡ 0
+two-zeroth list a Nothing = refl
+two-zeroth list a (At b) = refl
+
 module _ (list : List CandidateColor) (color : NormalizedColor) where
   pub nearest-promised : {r : FoundRecord} → r ≡ nearestRecordAnswer list color (recordsNumber list) → NearestRecord list color r
   unfolding numberBy
-  nearest-promised = answers numberOfRecord (recordReplies list) (nearestRecordAnswer list color) own
-    where
-      own : (n : ℕ) → numberOfRecord (nearestRecordAnswer list color n) ≡ n
-      own zero = refl
-      own (suc n) = refl
+  nearest-promised e = value-promised numberOfRecord _ _ one.Refused refl (λ n. refl) e
 
   module _ (width : ℕ) where
     pub two-promised : {r : FoundRecords} → r ≡ nearestTwoRecordsAnswer list color width (recordsNumber list) → NearestTwoRecords list color width r
     unfolding numberBy
-    two-promised = answers numberOfRecords (recordReplies list) (nearestTwoRecordsAnswer list color width) own
-      where
-        no : (a : ℕ) (s : Second) → numberOfRecords (recordsAt list a s) ≡ 0
-        no a Nothing = refl
-        no a (At b) = refl
-
-        own : (n : ℕ) → numberOfRecords (nearestTwoRecordsAnswer list color width n) ≡ n
-        own zero = let t = nearestTwoOf (candidatesOf list) width (toOklab color) color in no (t .first) (t .second)
-        own (suc n) = refl
+    two-promised e =
+        let t = nearestTwoOf (candidatesOf list) width (toOklab color) color in
+        value-promised numberOfRecords _ _ both.Refused (two-zeroth list (t .first) (t .second)) (λ n. refl) e
 
     pub bracket-promised : {r : FoundBracket} → r ≡ recordsBracketAnswer list color width (recordsNumber list) → RecordsBracket list color width r
     unfolding numberBy
-    bracket-promised = answers numberOfBracket (recordReplies list) (recordsBracketAnswer list color width) own
-      where
-        own : (n : ℕ) → numberOfBracket (recordsBracketAnswer list color width n) ≡ n
-        own zero = refl
-        own (suc n) = refl
+    bracket-promised e = value-promised numberOfBracket _ _ bracket.Refused refl (λ n. refl) e
 
 -- ---- a refusal: the number of the list, which is not 0
 module _ (list : List CandidateColor) (color : NormalizedColor) {r : ℕ} (e : r ≡ recordsNumber list) (h : r ≡ 0 → ⊥) where
   pub nearest-refused : NearestRecord list color (one.Refused r)
-  nearest-refused = nearest-promised list color (own r h ∙ ap (nearestRecordAnswer list color) e)
-    where
-      own : (r : ℕ) → (r ≡ 0 → ⊥) → one.Refused r ≡ nearestRecordAnswer list color r
-      own zero h = absurd (h refl)
-      own (suc r) h = refl
+  unfolding numberBy
+  nearest-refused = value-refused numberOfRecord _ _ one.Refused refl (λ n. refl) e h
 
   pub two-refused : (width : ℕ) → NearestTwoRecords list color width (both.Refused r)
-  two-refused width = two-promised list color width (own r h ∙ ap (nearestTwoRecordsAnswer list color width) e)
-    where
-      own : (r : ℕ) → (r ≡ 0 → ⊥) → both.Refused r ≡ nearestTwoRecordsAnswer list color width r
-      own zero h = absurd (h refl)
-      own (suc r) h = refl
+  unfolding numberBy
+  two-refused width =
+      let t = nearestTwoOf (candidatesOf list) width (toOklab color) color in
+      value-refused numberOfRecords _ _ both.Refused (two-zeroth list (t .first) (t .second)) (λ n. refl) e h
 
   pub bracket-refused : (width : ℕ) → RecordsBracket list color width (bracket.Refused r)
-  bracket-refused width = bracket-promised list color width (own r h ∙ ap (recordsBracketAnswer list color width) e)
-    where
-      own : (r : ℕ) → (r ≡ 0 → ⊥) → bracket.Refused r ≡ recordsBracketAnswer list color width r
-      own zero h = absurd (h refl)
-      own (suc r) h = refl
+  unfolding numberBy
+  bracket-refused width = value-refused numberOfBracket _ _ bracket.Refused refl (λ n. refl) e h
 
 -- ---- what `chosen` answers
 module _ (list : List CandidateColor) (color : NormalizedColor) (len : ℕ) (near : Pass) (e : len ≡ length list)

@@ -1,9 +1,9 @@
 -- What the lookups over records promise: document 01's numbers of their answers, what is answered with each, and one promise a call. Definitions only.
 -- Written from document 01, "Bounds and replies": "The lookups take the caller's list of candidate records and answer with a copy of the chosen one",
 -- "A refusal returns no colour."; and "Choosing colours": "With one candidate there is no second."
-use Prim.Native.Nat.{ℕ, zero, suc}
+use Prim.Native.Nat.{ℕ}
 use mathlib.Core.List.{List}
-use Rattle.replies.specs.Answers.{Answers}
+use Rattle.replies.specs.Answers.{Answers, valueOr}
 use Rattle.color.specs.declared.CandidateColor.{CandidateColor}
 use Rattle.color.specs.declared.NormalizedColor.{NormalizedColor}
 use Rattle.conversion.specs.Oklab.{toOklab}
@@ -40,8 +40,7 @@ numberOfRecords (both.Refused n) = n
 
 -- with 0 the nearest record
 abbrev pub nearestRecordAnswer : List CandidateColor → NormalizedColor → ℕ → FoundRecord
-nearestRecordAnswer list color zero = one.Chosen (recordAt list (nearestOf (candidatesOf list) (toOklab color)))
-nearestRecordAnswer list color (suc n) = one.Refused (suc n)
+nearestRecordAnswer list color = valueOr (one.Chosen (recordAt list (nearestOf (candidatesOf list) (toOklab color)))) one.Refused
 
 -- the records at the positions of two
 abbrev pub recordsAt : List CandidateColor → ℕ → Second → FoundRecords
@@ -50,13 +49,13 @@ recordsAt list a (At b) = both.Two (recordAt list a) (recordAt list b)
 
 -- with 0 the nearest two
 abbrev pub nearestTwoRecordsAnswer : List CandidateColor → NormalizedColor → ℕ → ℕ → FoundRecords
-nearestTwoRecordsAnswer list color width zero = let t = nearestTwoOf (candidatesOf list) width (toOklab color) color in recordsAt list (t .first) (t .second)
-nearestTwoRecordsAnswer list color width (suc n) = both.Refused (suc n)
+nearestTwoRecordsAnswer list color width =
+    let t = nearestTwoOf (candidatesOf list) width (toOklab color) color in
+    valueOr (recordsAt list (t .first) (t .second)) both.Refused
 
 -- with 0 the bracket
 abbrev pub recordsBracketAnswer : List CandidateColor → NormalizedColor → ℕ → ℕ → FoundBracket
-recordsBracketAnswer list color width zero = bracket.Of (bracketOf (candidatesOf list) width (toOklab color) color)
-recordsBracketAnswer list color width (suc n) = bracket.Refused (suc n)
+recordsBracketAnswer list color width = valueOr (bracket.Of (bracketOf (candidatesOf list) width (toOklab color) color)) bracket.Refused
 
 -- ---- the promises
 abbrev pub NearestRecord : List CandidateColor → NormalizedColor → FoundRecord → Type 0

@@ -28,24 +28,25 @@ module _ {A : Type 0} (numberOf : A → ℕ) (replies : List Reply) (answerOf : 
   pub answers-lowest : T (risingFrom 0 replies) → {r : A} → Answers numberOf replies answerOf r → Lowest replies (numberOf r)
   answers-lowest h a = subst (Lowest replies) (sym (a .number)) (lowest-is replies h)
 
--- ---- one case holds a result
+-- ---- one case holds a result: with a number that is not 0 a refusal is answered
+pub value-other : {A : Type 0} (value : A) (refused : ℕ → A) (n : ℕ) → (n ≡ 0 → ⊥) → refused n ≡ valueOr value refused n
+value-other value refused zero h = absurd (h refl)
+value-other value refused (suc n) h = refl
+
 module _ {A : Type 0} (numberOf : A → ℕ) (replies : List Reply) (value : A) (refused : ℕ → A) (zeroth : numberOf value ≡ 0)
     (own : (n : ℕ) → numberOf (refused n) ≡ n) where
-  own-number : (n : ℕ) → numberOf (valueOr value refused n) ≡ n
-  own-number zero = zeroth
-  own-number (suc n) = own (suc n)
+  -- what is answered with a number has that number
+  pub value-number : (n : ℕ) → numberOf (valueOr value refused n) ≡ n
+  value-number zero = zeroth
+  value-number (suc n) = own (suc n)
 
   -- the form, from the answer
   pub value-promised : {r : A} → r ≡ valueOr value refused (firstReply replies) → Answers numberOf replies (valueOr value refused) r
-  value-promised e = answers numberOf replies (valueOr value refused) own-number e
+  value-promised e = answers numberOf replies (valueOr value refused) value-number e
 
   -- a number that is not 0 is refused with
   pub value-refused : {n : ℕ} → n ≡ firstReply replies → (n ≡ 0 → ⊥) → Answers numberOf replies (valueOr value refused) (refused n)
-  value-refused {n} e h = value-promised (go n h ∙ ap (valueOr value refused) e)
-    where
-      go : (n : ℕ) → (n ≡ 0 → ⊥) → refused n ≡ valueOr value refused n
-      go zero h = absurd (h refl)
-      go (suc n) h = refl
+  value-refused {n} e h = value-promised (value-other value refused n h ∙ ap (valueOr value refused) e)
 
   -- with 0 the result is answered
   pub value-granted : firstReply replies ≡ 0 → {r : A} → r ≡ value → Answers numberOf replies (valueOr value refused) r
