@@ -28,7 +28,7 @@ use Rattle.patterns.specs.Thresholds.{thresholdReplies}
 use Rattle.shortlist.specs.Candidates.{flat}
 use Rattle.shortlist.proofs.NearestLaws.{nearest-inside}
 use Rattle.lookup.specs.Lists.{listReplies}
-use Rattle.lookup.specs.Answers.{bracketAnswer, pickAnswer, FlatNearest, FlatTwo, FlatBracket, PickedAt}
+use Rattle.lookup.specs.Answers.{nearestAnswer, nearestTwoAnswer, bracketAnswer, pickAnswer, FlatNearest, FlatTwo, FlatBracket, PickedAt}
 use Rattle.lookup.specs.declared.Second.{Second}
 use Rattle.lookup.specs.declared.Second.the-variants as second
 use Rattle.lookup.specs.declared.Two.{Two}
@@ -71,6 +71,23 @@ module _ (reduced normalized : List ℕ) (oklab : List Float) (color : Normalize
       either m first i (second.At k) h = h k refl
       either m first i second.Nothing h = i
 
+-- ---- the answer x for an opaque colour is that for its three bytes
+module _ (reduced normalized : List ℕ) (oklab : List Float) (r g b : ℕ) (color : NormalizedColor) (c : color .0 ≡ rgba r g b 255) where
+  abbrev number : ℕ
+  number = firstReply (listReplies reduced normalized oklab)
+
+  pub nearest-rgb : {x y : Found} → FlatNearest reduced normalized oklab color x → x ≡ y → nearestAnswer reduced normalized oklab (opaqueRgb r g b) number ≡ y
+  nearest-rgb a q = of-rgb (λ (u : NormalizedColor). nearestAnswer reduced normalized oklab u number) color r g b c (answered _ _ _ a) q
+
+  module _ (width : ℕ) where
+    pub two-rgb : {x y : FoundTwo} → FlatTwo reduced normalized oklab color width x → x ≡ y
+        → nearestTwoAnswer reduced normalized oklab (opaqueRgb r g b) width number ≡ y
+    two-rgb a q = of-rgb (λ (u : NormalizedColor). nearestTwoAnswer reduced normalized oklab u width number) color r g b c (answered _ _ _ a) q
+
+    pub bracket-rgb : {x y : FoundBracket} → FlatBracket reduced normalized oklab color width x → x ≡ y
+        → bracketAnswer reduced normalized oklab (opaqueRgb r g b) width number ≡ y
+    bracket-rgb a q = of-rgb (λ (u : NormalizedColor). bracketAnswer reduced normalized oklab u width number) color r g b c (answered _ _ _ a) q
+
 -- ---- four bytes
 -- a colour in four bytes fills them
 pub all-four : (bytes : List ℕ) (c : Rgba8888) → length bytes ≡ 4 → sets bytes 0 (bytesOf c) ≡ bytesOf c
@@ -101,9 +118,7 @@ module _ (reduced normalized : List ℕ) (oklab : List Float) (r g b width : ℕ
   pub bracket-four : not (isFour dark && isFour light) ≡ false → (color : NormalizedColor) → color .0 ≡ rgba r g b 255 → {x y : FoundBracket}
       → FlatBracket reduced normalized oklab color width x → x ≡ y → bracketRgb reduced normalized oklab r g b width dark light ≡ y
   unfolding bracketRgb
-  bracket-four e color c a q =
-      rw e (of-rgb (λ (u : NormalizedColor). bracketAnswer reduced normalized oklab u width (firstReply (listReplies reduced normalized oklab))) color r g b c
-      (answered _ _ _ a) q)
+  bracket-four e color c a q = rw e (bracket-rgb reduced normalized oklab r g b color c width a q)
 
 -- ---- pick
 module _ (dark light : List ℕ) (ratio : Float) (kind x y : ℕ) (chosen : List ℕ) where

@@ -1,11 +1,8 @@
 -- `exports::badge_nearest` meets its contract: the answer's case decides the number and what is written; the position fits. Assumes nothing.
 use native.Mathlib.Omega.{arith}
-use Rattle.replies.proofs.AnswerLaws.{answered}
-use Rattle.color.specs.declared.NormalizedColor.{NormalizedColor}
-use Rattle.lookup.specs.Answers.{nearestAnswer}
 use Rattle.exports.specs.Lookups.{foundLeft}
-use Rattle.exports.proofs.AnswerLaws.{left-by, of-rgb}
-use Rattle.exports.proofs.LookupLaws.{position-small}
+use Rattle.exports.proofs.AnswerLaws.{left-by}
+use Rattle.exports.proofs.LookupLaws.{position-small, nearest-rgb}
 use borrow.Author.Needs.{needs}
 use Rattle.exports.proofs.badge_nearest.Statement.{statement}
 use Rattle.exports.proofs.badge_nearest.Tie as tie
@@ -38,16 +35,16 @@ returns c =
     let n = c .before .before .before .before .new in
     let a = c .before .before .before .before .before .before .before .before .args in
     left-by (foundLeft _)
-    (of-rgb (λ (u : NormalizedColor). nearestAnswer (a .reduced .now) (a .normalized .now) (a .oklab .now) u _) (n .result) (a .r) (a .g) (a .b) (n .ensures)
-    (answered _ _ _ (c .before .before .before .flat-nearest .ensures)) (c .before .k .given .1))
+    (nearest-rgb (a .reduced .now) (a .normalized .now) (a .oklab .now) (a .r) (a .g) (a .b) (n .result) (n .ensures)
+    (c .before .before .before .flat-nearest .ensures) (c .before .k .given .1))
 
 returns-2 : tie.Need-returns-2
 returns-2 c =
     let n = c .before .before .before .before .new in
     let a = c .before .before .before .before .before .before .before .before .args in
     left-by (foundLeft _)
-    (of-rgb (λ (u : NormalizedColor). nearestAnswer (a .reduced .now) (a .normalized .now) (a .oklab .now) u _) (n .result) (a .r) (a .g) (a .b) (n .ensures)
-    (answered _ _ _ (c .before .before .before .flat-nearest .ensures)) (c .before .number .given .1))
+    (nearest-rgb (a .reduced .now) (a .normalized .now) (a .oklab .now) (a .r) (a .g) (a .b) (n .result) (n .ensures)
+    (c .before .before .before .flat-nearest .ensures) (c .before .number .given .1))
 
 pub badge-nearest-spec : {M : Type 1} → statement M
 badge-nearest-spec =

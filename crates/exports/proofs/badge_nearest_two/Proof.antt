@@ -1,12 +1,9 @@
 -- `exports::badge_nearest_two` meets its contract: the answer's case decides the number and what is written; the positions fit. Assumes nothing.
 use native.Mathlib.Omega.{arith}
 use mathlib.Core.Path.{_∙_}
-use Rattle.replies.proofs.AnswerLaws.{answered}
-use Rattle.lookup.specs.Answers.{nearestTwoAnswer}
-use Rattle.color.specs.declared.NormalizedColor.{NormalizedColor}
 use Rattle.exports.specs.Lookups.{twoLeft}
-use Rattle.exports.proofs.AnswerLaws.{left-by, of-rgb}
-use Rattle.exports.proofs.LookupLaws.{positions-small}
+use Rattle.exports.proofs.AnswerLaws.{left-by}
+use Rattle.exports.proofs.LookupLaws.{positions-small, two-rgb}
 use borrow.Author.Needs.{needs}
 use Rattle.exports.proofs.badge_nearest_two.Statement.{statement}
 use Rattle.exports.proofs.badge_nearest_two.Tie as tie
@@ -49,16 +46,16 @@ returns : tie.Need-returns
 returns c =
     let n = c .before .before .before .before .before .before .new in
     let a = c .before .before .before .before .before .before .before .before .before .before .args in
-    let e = of-rgb (λ (u : NormalizedColor). nearestTwoAnswer (a .reduced .now) (a .normalized .now) (a .oklab .now) u (a .width) _) (n .result) (a .r) (a .g) (a .b)
-    (n .ensures) (answered _ _ _ (c .before .before .before .before .before .flat-nearest-two .ensures)) (c .before .before .before .two .given .1) in
+    let e = two-rgb (a .reduced .now) (a .normalized .now) (a .oklab .now) (a .r) (a .g) (a .b) (n .result) (n .ensures) (a .width)
+    (c .before .before .before .before .before .flat-nearest-two .ensures) (c .before .before .before .two .given .1) in
     (λ i. (0, c .before .before .before .two .given .0 .0 .first, c .second-of .ensures i)) ∙ left-by (twoLeft (a .first .now) (a .second .now)) e
 
 returns-2 : tie.Need-returns-2
 returns-2 c =
     let n = c .before .before .before .before .new in
     let a = c .before .before .before .before .before .before .before .before .args in
-    let e = of-rgb (λ (u : NormalizedColor). nearestTwoAnswer (a .reduced .now) (a .normalized .now) (a .oklab .now) u (a .width) _) (n .result) (a .r) (a .g) (a .b)
-    (n .ensures) (answered _ _ _ (c .before .before .before .flat-nearest-two .ensures)) (c .before .number .given .1) in
+    let e = two-rgb (a .reduced .now) (a .normalized .now) (a .oklab .now) (a .r) (a .g) (a .b) (n .result) (n .ensures) (a .width)
+    (c .before .before .before .flat-nearest-two .ensures) (c .before .number .given .1) in
     left-by (twoLeft (a .first .now) (a .second .now)) e
 
 pub badge-nearest-two-spec : {M : Type 1} → statement M
