@@ -1,4 +1,3 @@
 -- The laws of `picture`.
 pub mod BoundLaws
 pub mod PixelLaws
-pub mod Opaque

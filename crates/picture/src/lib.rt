@@ -3,7 +3,7 @@ ghost use mathlib.Core.Path.{_≡_};
 ghost use Prim.Native.Nat.{_+_, _*_, _<_, _≤_};
 ghost use lib.ListN.{length};
 ghost use Rattle.picture.specs.Bounds.{sizeWrong, originWrong, tableWrong, lentWrong, sideWrong};
-ghost use Rattle.picture.specs.Pixels.{sourceAt, reducedBy, isSeen, pixelAt, isOpaque};
+ghost use Rattle.picture.specs.Pixels.{sourceAt, reducedBy, isSeen};
 use color::NormalizedColor;
 use color::ReducedColor;
 
@@ -22,7 +22,7 @@ pub fn origin_wrong(origin: u32, side: u32) -> bool
 }
 
 // Whether a lent table has not 256 entries.
-pub fn table_wrong(entries: usize) -> bool
+fn table_wrong(entries: usize) -> bool
     ensures { λ r. ⌜ r ≡ tableWrong entries ⌝ }
 {
     entries != 256
@@ -65,21 +65,4 @@ pub fn is_seen(reduction: &[u8], pixels: &[u8], i: usize) -> bool
     ensures { λ t. ⌜ t ≡ isSeen (reducedBy (now (reduction .entry)) (now (pixels .entry))) i ⌝ }
 {
     !reduced_at(reduction, pixels, i).is_transparent()
-}
-
-// Pixel i reduced. No public call: the caller sees to the lengths.
-pub fn pixel_at(reduction: &[u8], pixels: &[u8], i: usize) -> ReducedColor
-    requires { ⌜ (length (now reduction) ≡ 256) × (4 * i + 3 < length (now pixels)) ⌝ }
-    ensures { λ c. ⌜ c ≡ pixelAt (now (reduction .entry)) (now (pixels .entry)) i ⌝ }
-{
-    color::reduce_color(reduction, source_at(pixels, i))
-}
-
-// Whether pixel i is opaque: its reduced colour is not transparent. No public call: the caller sees to the length.
-pub fn is_opaque(pixels: &[u8], i: usize) -> bool
-    requires { ⌜ 4 * i + 3 < length (now pixels) ⌝ }
-    ensures { λ t. ⌜ t ≡ isOpaque (now (pixels .entry)) i ⌝ }
-{
-    let c = color::rgba_at(pixels, i);
-    128 <= c.a
 }

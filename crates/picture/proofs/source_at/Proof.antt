@@ -1,7 +1,4 @@
 -- `picture::source_at` meets its contract. Assumes nothing.
-use mathlib.Core.Path.{ap}
-use Rattle.color.specs.declared.Rgba8888.{Rgba8888}
-use Rattle.color.specs.declared.NormalizedColor.{NormalizedColor}
 use borrow.Author.Needs.{needs}
 use Rattle.picture.proofs.source_at.Statement.{statement}
 use Rattle.picture.proofs.source_at.Tie as tie
