@@ -1,16 +1,15 @@
--- The colour account of a dithered channel, for any kernel whose targets come later in the scan and whose weights total at most sixteen: sixteen
--- times sources less choices is what was lost, what reached skipped pixels, what was dropped and what was held back. Each pixel's equation is
--- summed; the cells of the dithered pixels are what was sent to dithered pixels, and cancel. Assumes nothing.
+-- The colour account of a dithered channel, for any kernel whose targets come later in the scan and whose weights, with the number that is held back,
+-- are sixteen: sixteen times sources less choices is what was lost, what reached skipped pixels, what was dropped and what was held back. Each
+-- pixel's equation is summed; the cells of the dithered pixels are what was sent to dithered pixels, and cancel. Assumes nothing.
 use mathlib.Core.Path.{_≡_, refl, sym, ap, _∙_}
 use mathlib.Core.Bool.{Bool, true, false, cond, not}
 use mathlib.Core.List.{List, [], _∷_}
-use Prim.Native.Nat.{ℕ, _+_, _-_, _*_, _≤_, _<_}
+use Prim.Native.Nat.{ℕ, _+_, _*_, _<_}
 use native.Mathlib.Nat.{le-of-lt}
-use native.Mathlib.Omega.{arith}
 use lib.Dec.{T, eqb}
 use lib.IntN.{ℤ, pos, _+ℤ_, _-ℤ_, _*ℤ_, +ℤ-idl, +ℤ-idr, +ℤ-negℤ-cancel, -ℤ-+ℤ-cancel, zero-*ℤ, *ℤ-zero, *ℤ-comm}
 use Rattle.diffusion.specs.Biased.{biasedOf}
-use Rattle.patterns.specs.Kernel.{Target, Place, pixel, outside, landing, total, heldBack, later}
+use Rattle.patterns.specs.Kernel.{Target, Place, pixel, outside, landing, total, later}
 use Rattle.diffusion.specs.Sum.{sum}
 use Rattle.diffusion.specs.Diffusion.{Channel, isAt, weightTo, residualOf, cell, residual, lossOf, loss}
 use Rattle.diffusion.specs.Account.{overDithered, sources, choices, excess, lost, sent, sentTo, isSkipped, isOutside, toSkipped, dropped, held}
@@ -161,40 +160,36 @@ one-pixel s z v =
 balance : (a b d l s o h : ℤ) → a +ℤ d ≡ l +ℤ (((d +ℤ (s +ℤ o)) +ℤ h) +ℤ b) → a -ℤ b ≡ l +ℤ s +ℤ o +ℤ h
 balance a b d l s o h e = ap (λ (x : ℤ). x -ℤ b) (cancel a (l +ℤ s +ℤ o +ℤ h +ℤ b) d (e ∙ simp sums)) ∙ +ℤ-negℤ-cancel (l +ℤ s +ℤ o +ℤ h) b
 
-module _ (k : List Target) (c : Channel) (s : T (later k)) (t : total k ≤ 16) where
-  shared : (r : ℤ) → r *ℤ pos (total k) +ℤ r *ℤ pos (heldBack k) ≡ r *ℤ pos 16
-  unfolding heldBack
-  shared r = sym (times-add r (total k) (16 - total k)) ∙ ap (λ (n : ℕ). r *ℤ pos n) (whole (total k) t)
-    where
-      whole : (n : ℕ) → n ≤ 16 → n + (16 - n) ≡ 16
-      whole n l = omega arith
+module _ (k : List Target) (h : ℕ) (c : Channel) (s : T (later k)) (t : total k + h ≡ 16) where
+  shared : (r : ℤ) → r *ℤ pos (total k) +ℤ r *ℤ pos h ≡ r *ℤ pos 16
+  shared r = sym (times-add r (total k) h) ∙ ap (λ (n : ℕ). r *ℤ pos n) t
 
   pixels : (i : ℕ) → c .dithered i ≡ true → pos (c .source i) *ℤ pos 16 +ℤ cell k c i ≡ loss k c i +ℤ (residual k c i *ℤ pos 16 +ℤ pos (c .chosen i) *ℤ pos 16)
   unfolding loss residual residualOf
   pixels i d = rw d (one-pixel (c .source i) (cell k c i) (c .chosen i))
 
   -- sixteen residuals: what reached dithered pixels, skipped ones, no pixel, and what was held back
-  residuals : overDithered c (λ i. residual k c i *ℤ pos 16) ≡ overDithered c (cell k c) +ℤ (toSkipped k c +ℤ dropped k c) +ℤ held k c
+  residuals : overDithered c (λ i. residual k c i *ℤ pos 16) ≡ overDithered c (cell k c) +ℤ (toSkipped k c +ℤ dropped k c) +ℤ held k h c
   unfolding sentTo toSkipped dropped held
   residuals =
-      over-same c (λ i. residual k c i *ℤ pos 16) (λ i. (to (isDithered c) i +ℤ (to (isSkipped c) i +ℤ to isOutside i)) +ℤ residual k c i *ℤ pos (heldBack k))
-      (λ i l d. sym (shared (residual k c i)) ∙ ap (λ (x : ℤ). x +ℤ residual k c i *ℤ pos (heldBack k)) (sym (all-sent c k (c .width) (c .height) i (residual k c i))))
-      ∙ over-add c (λ i. to (isDithered c) i +ℤ (to (isSkipped c) i +ℤ to isOutside i)) (λ i. residual k c i *ℤ pos (heldBack k))
-      ∙ ap (λ (x : ℤ). x +ℤ held k c)
+      over-same c (λ i. residual k c i *ℤ pos 16) (λ i. (to (isDithered c) i +ℤ (to (isSkipped c) i +ℤ to isOutside i)) +ℤ residual k c i *ℤ pos h)
+      (λ i l d. sym (shared (residual k c i)) ∙ ap (λ (x : ℤ). x +ℤ residual k c i *ℤ pos h) (sym (all-sent c k (c .width) (c .height) i (residual k c i))))
+      ∙ over-add c (λ i. to (isDithered c) i +ℤ (to (isSkipped c) i +ℤ to isOutside i)) (λ i. residual k c i *ℤ pos h)
+      ∙ ap (λ (x : ℤ). x +ℤ held k h c)
       (over-add c (to (isDithered c)) (λ i. to (isSkipped c) i +ℤ to isOutside i)
       ∙ (λ q. sym (cells-are-sends k c s) q +ℤ over-add c (to (isSkipped c)) (to isOutside) q))
     where
       to : (Place → Bool) → ℕ → ℤ
       to test i = sent test k (c .width) (c .height) i (residual k c i)
 
-  pub account : excess c ≡ lost k c +ℤ toSkipped k c +ℤ dropped k c +ℤ held k c
+  pub account : excess c ≡ lost k c +ℤ toSkipped k c +ℤ dropped k c +ℤ held k h c
   unfolding excess sources choices lost
   account =
       *ℤ-comm (pos 16) (sources c -ℤ choices c)
       ∙ sub-times (sources c) (choices c) 16
-      ∙ balance (sources c *ℤ pos 16) (choices c *ℤ pos 16) (overDithered c (cell k c)) (lost k c) (toSkipped k c) (dropped k c) (held k c) both-sides
+      ∙ balance (sources c *ℤ pos 16) (choices c *ℤ pos 16) (overDithered c (cell k c)) (lost k c) (toSkipped k c) (dropped k c) (held k h c) both-sides
     where
-      both-sides : sources c *ℤ pos 16 +ℤ overDithered c (cell k c) ≡ lost k c +ℤ (overDithered c (cell k c) +ℤ (toSkipped k c +ℤ dropped k c) +ℤ held k c +ℤ choices c *ℤ pos 16)
+      both-sides : sources c *ℤ pos 16 +ℤ overDithered c (cell k c) ≡ lost k c +ℤ (overDithered c (cell k c) +ℤ (toSkipped k c +ℤ dropped k c) +ℤ held k h c +ℤ choices c *ℤ pos 16)
       both-sides =
           ap (λ (x : ℤ). x +ℤ overDithered c (cell k c)) (sym (over-times c (λ i. pos (c .source i)) 16))
           ∙ sym (over-add c (λ i. pos (c .source i) *ℤ pos 16) (cell k c))
@@ -203,10 +198,3 @@ module _ (k : List Target) (c : Channel) (s : T (later k)) (t : total k ≤ 16) 
           ∙ ap (λ (x : ℤ). lost k c +ℤ x)
           (over-add c (λ i. residual k c i *ℤ pos 16) (λ i. pos (c .chosen i) *ℤ pos 16)
           ∙ (λ q. residuals q +ℤ over-times c (λ i. pos (c .chosen i)) 16 q))
-
--- a kernel that passes on all sixteen sixteenths holds nothing back
-pub held-none : (k : List Target) (c : Channel) → heldBack k ≡ 0 → held k c ≡ pos 0
-unfolding held overDithered
-held-none k c e =
-    ap (λ (n : ℕ). sum (λ i. cond (c .dithered i) (residual k c i *ℤ pos n) (pos 0)) (c .width * c .height)) e
-    ∙ sum-zero (λ i. cond (c .dithered i) (residual k c i *ℤ pos 0) (pos 0)) (c .width * c .height) (λ i l. nothing (c .dithered i) (residual k c i))

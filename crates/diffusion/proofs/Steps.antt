@@ -5,7 +5,7 @@ use mathlib.Core.Path.{_≡_, refl, sym, ap, _∙_}
 use mathlib.Core.Bool.{true, false, cond}
 use mathlib.Core.List.{List, map}
 use Prim.Native.Nat.{ℕ, _+_, _*_, _≤_, _<_}
-use native.Mathlib.Nat.{add-zero, le-of-lt}
+use native.Mathlib.Nat.{add-zero, le-refl, le-of-lt}
 use native.Mathlib.Numerals.{add-one}
 use lib.Dec.{T}
 use lib.IntN.{ℤ, pos, _-ℤ_}
@@ -90,3 +90,8 @@ module _ (k : List Target) (p : Picture) where
   -- after the last pixel the buffer holds the picture's cells
   pub step-end : T (later k) → (cells : List Float) → cells ≡ map sixteenths (scatter k p (p .width * p .height)) → cells ≡ cellBuffer k p
   step-end s cells is = is ∙ drawn k p s
+
+  -- and so the picture's cells are sixteenths within 255 either way
+  pub buffer-cells : T (later k) → total k ≤ 16 → ((a j : ℕ) → a < 3 → p .chosen a j ≤ 255) → (cells : List Float) → cells ≡ cellBuffer k p
+      → Cells 4080 cells (scatter k p (p .width * p .height))
+  buffer-cells s t bytes cells is = step-cells (p .width * p .height) (le-refl (p .width * p .height)) cells (is ∙ sym (drawn k p s)) t bytes

@@ -11,7 +11,7 @@ use Rattle.patterns.specs.Thresholds.{share, thresholdOf}
 use Rattle.conversion.specs.Linear.{linearOf}
 use Rattle.conversion.specs.Root.{digits, rootOf}
 use Rattle.conversion.specs.Nearest.{nearest}
-use Rattle.patterns.specs.Kernel.{total, heldBack, place, landing}
+use Rattle.patterns.specs.Kernel.{total, place, landing}
 use Rattle.diffusion.specs.Biased.{halves, clip, biasedOf}
 use Rattle.diffusion.specs.Sum.{sum}
 use Rattle.diffusion.specs.Diffusion.{isAt, weightTo, residualOf, received, cell, residual, lossOf, loss}
@@ -19,5 +19,5 @@ use Rattle.diffusion.specs.Account.{overDithered, sources, choices, excess, los
 use Rattle.examples.specs.Table.{Value, Row, table}
 
 pub examples : map (λ (r : Row). r .given) table ≡ map (λ (r : Row). r .said) table
-unfolding round add sub mul div eq lt ofInt over byteF dot less along shareOf clampOf lerpOf isShift widthOf bracketWidthOf kindOf wayOf share thresholdOf linearOf digits rootOf nearest halves clip biasedOf total heldBack place landing sum isAt weightTo residualOf received cell residual lossOf loss overDithered sources choices excess lost sent sentTo isSkipped isOutside toSkipped dropped held
+unfolding round add sub mul div eq lt ofInt over byteF dot less along shareOf clampOf lerpOf isShift widthOf bracketWidthOf kindOf wayOf share thresholdOf linearOf digits rootOf nearest halves clip biasedOf total place landing sum isAt weightTo residualOf received cell residual lossOf loss overDithered sources choices excess lost sent sentTo isSkipped isOutside toSkipped dropped held
 examples = refl

@@ -63,14 +63,14 @@ ordered-answer k x y h = go (wayOf k) h
     go : (w : Way) → T (hasMatrix w) → answerIn w x y ≡ At (thresholdIn w x y)
     go plain h = absurd h
     go (ordered m n) h = refl
-    go (diffused k) h = absurd h
+    go (diffused k l) h = absurd h
     go none h = absurd h
 
 -- ---- only the remainders by the matrix size count
 abbrev pub sizeIn : Way → ℕ
 sizeIn plain = 0
 sizeIn (ordered m n) = length m
-sizeIn (diffused k) = 0
+sizeIn (diffused k h) = 0
 sizeIn none = 0
 
 pub repeats : (k x y x' y' : ℕ) → x % sizeIn (wayOf k) ≡ x' % sizeIn (wayOf k) → y % sizeIn (wayOf k) ≡ y' % sizeIn (wayOf k) → thresholdOf k x y ≡ thresholdOf k x' y'
@@ -80,7 +80,7 @@ repeats k x y x' y' p q = go (wayOf k) p q
     go : (w : Way) → x % sizeIn w ≡ x' % sizeIn w → y % sizeIn w ≡ y' % sizeIn w → answerIn w x y ≡ answerIn w x' y'
     go plain p q = refl
     go (ordered m n) p q = λ i. At (share (getD (getD m (q i) []) (p i) 0) (wholef (pos n)))
-    go (diffused k) p q = refl
+    go (diffused k h) p q = refl
     go none p q = refl
 
 -- ---- the value: (2 entry + 1) / 2n
@@ -105,7 +105,7 @@ share-is e n E P N =
 abbrev pub square : Way → Bool
 square plain = true
 square (ordered m n) = all (λ (r : List ℕ). eqb (length r) (length m)) m
-square (diffused k) = true
+square (diffused k h) = true
 square none = true
 
 pub squares : (k : ℕ) → T (square (wayOf k))
@@ -120,7 +120,7 @@ strict n e = ltb e n && (lt zeroF (over (2 * n) (pos (2 * e + 1))) && lt (over (
 good : Way → Bool
 good plain = true
 good (ordered m n) = (ltb 0 n && ltb n 256) && (strict n 0 && all (all (strict n)) m)
-good (diffused k) = true
+good (diffused k h) = true
 good none = true
 
 goods : (k : ℕ) → T (good (wayOf k))

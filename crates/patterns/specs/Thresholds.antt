@@ -27,7 +27,7 @@ entry m x y = entryIn (length m) m x y
 abbrev pub thresholdIn : Way → ℕ → ℕ → Float
 thresholdIn plain x y = nan
 thresholdIn (ordered m n) x y = share (entry m x y) (wholef (pos n))
-thresholdIn (diffused k) x y = nan
+thresholdIn (diffused k h) x y = nan
 thresholdIn none x y = nan
 
 -- that of the kind with a number
@@ -38,7 +38,7 @@ thresholdAt kind x y = thresholdIn (wayOf kind) x y
 abbrev pub answerIn : Way → ℕ → ℕ → Thresholded
 answerIn plain x y = Refused 9
 answerIn (ordered m n) x y = At (thresholdIn (ordered m n) x y)
-answerIn (diffused k) x y = Refused 9
+answerIn (diffused k h) x y = Refused 9
 answerIn none x y = Refused 1
 
 -- what `ordered_threshold` answers

@@ -137,7 +137,7 @@ same-length : tie.Need-same-length Inv-loop μ-loop
 same-length c = c .before .loop .inv .1
 
 returns : tie.Need-returns Inv-loop μ-loop
-returns c k zs rs A C R =
+returns c k A zs rs C R =
     let s = c .before .before .before .before .before in
     let all : length k ≤ c .before .loop .m = subst (λ (n : ℕ). n ≤ c .before .loop .m) (ap length (A .columns) ∙ length-map k (λ t. t .dx)) (c .loop-test .left) in
     c .before .loop .inv .2 k zs rs A C R
