@@ -31,7 +31,8 @@ use Rattle.account.specs.Accounted.{pictureIn, leftOf, Accounted}
 use Rattle.account.proofs.Bytes.{byte-in}
 
 -- pictures that are alike have the same cells
-pub cells-same : (k : List Target) (p p′ : Picture) → ((a : ℕ) → a < 3 → Alike (channel p a) (channel p′ a) (p .width * p .height)) → cellBuffer k p ≡ cellBuffer k p′
+pub cells-same : (k : List Target) (p p′ : Picture) → ((a : ℕ) → a < 3 → Alike (channel p a) (channel p′ a) (p .width * p .height))
+    → cellBuffer k p ≡ cellBuffer k p′
 unfolding cellBuffer
 cells-same k p p′ s =
     gather-same (p .width * p .height) (λ i h t. one i h 0 (lit< tt) t ∷ one i h 1 (lit< tt) t ∷ one i h 2 (lit< tt) t ∷ [])
@@ -50,9 +51,9 @@ module _ (d : Drawing) (pixels out : List ℕ) (cells : List Float) (kind : isDi
       record {
         chosen = chosen;
         cell-buffer = spent;
-        within = λ bytes. (_, buffer-cells k p (kernel-later (d .kind)) (kernel-total (d .kind)) (λ a j A. bytes (4 * j + a)) cells spent);
+        exact-cells = λ bytes. (_, buffer-cells k p (kernel-later (d .kind)) (kernel-total (d .kind)) (λ a j A. bytes (4 * j + a)) cells spent);
         balanced = λ a A. account k (heldOf (d .kind)) (channel p a) (kernel-later (d .kind)) (kernel-whole (d .kind) kind);
-        whole = kernel-whole (d .kind) kind;
+        all-sixteen = kernel-whole (d .kind) kind;
         small = λ a i A u. let l = pixel-loss-range k (channel p a) i (u .low) (u .high) in record { low = l .0; high = l .1 };
       }
 
@@ -75,11 +76,13 @@ module _ (d : Drawing) (pixels out : List ℕ) (cells was : List Float) (source 
   unfolding biasedAt rgbaAt
   follows i h e =
       ap (d .normalize) (drawn-diffused d i (not-true _ e) kind)
-      ∙ (λ t. d .normalize (nearestColor (d .candidates) (record { 0 = rgba (biasedAt d (drawn d) i .0 .r) (biasedAt d (drawn d) i .0 .g) (biasedAt d (drawn d) i .0 .b) (source i t .0 .a) })))
+      ∙ (λ t. d .normalize (nearestColor (d .candidates)
+      (record { 0 = rgba (biasedAt d (drawn d) i .0 .r) (biasedAt d (drawn d) i .0 .g) (biasedAt d (drawn d) i .0 .b) (source i t .0 .a) })))
 
   pub accounted : cells ≡ cellsAfter d was → Accounted d pixels out cells
   unfolding cellsAfter
   accounted e =
       from-picture d pixels out cells kind
-      (follows-kept (leftOf d pixels) (kernelOf (d .kind)) (pictureOf d (drawn d)) (pictureIn d pixels out) (λ i. d .normalize (drawn d i)) (normalizedAt out) (d .width * d .height) alike (λ i h s. sym (left i h (not-true _ s))) follows)
+      (follows-kept (leftOf d pixels) (kernelOf (d .kind)) (pictureOf d (drawn d)) (pictureIn d pixels out) (λ i. d .normalize (drawn d i))
+      (normalizedAt out) (d .width * d .height) alike (λ i h s. sym (left i h (not-true _ s))) follows)
       (e ∙ rw kind (cells-same (kernelOf (d .kind)) (pictureOf d (drawn d)) (pictureIn d pixels out) alike))

@@ -1,7 +1,7 @@
 -- The colour account at the buffers of an accepted call: the pixels that were lent, the pixels and the cells that are left. Definitions only.
 -- Written from document 01, "Loss at a dithered pixel": "In demand 3 'chosen' is the normalised choice, and a pixel is dithered if it isn't skipped";
--- "Diffusion runs row by row": "exact sixteenths within ±255"; and "How firm each promise is": "Demand 3 alone would pass a copy of the source, so it speaks of demand 2's picture". The five terms are
--- defined in `diffusion` (specs/Account), what is chosen and skipped in `drawing`.
+-- "Diffusion runs row by row": "exact sixteenths within ±255"; and "How firm each promise is": "Demand 3 alone would pass a copy of the source, so it
+-- speaks of demand 2's picture". The five terms are defined in `diffusion` (specs/Account), what is chosen and skipped in `drawing`.
 use mathlib.Core.Path.{_≡_}
 use Prim.Native.Nat.{ℕ, _+_, _*_, _≤_, _<_}
 use mathlib.Core.Bool.{not}
@@ -62,11 +62,11 @@ pub record Accounted (d : Drawing) (pixels out : List ℕ) (cells : List Float) 
   -- its cells are the cells that are left
   pub cell-buffer : cells ≡ cellBuffer (kernelOf (d .kind)) (pictureIn d pixels out)
   -- and these are exact sixteenths within 255 either way, 4080 sixteenths, where `out` holds bytes, as a lent buffer of them does
-  pub within : ((i : ℕ) → getD out i 0 ≤ 255) → (zs : List ℤ) × Cells 4080 cells zs
+  pub exact-cells : ((i : ℕ) → getD out i 0 ≤ 255) → (zs : List ℤ) × Cells 4080 cells zs
   -- its red, green and blue, with what the table says that the kind holds back: Atkinson four sixteenths of each residual, Floyd-Steinberg none
   pub balanced : (a : ℕ) → a < 3 → Balanced (kernelOf (d .kind)) (heldOf (d .kind)) (pictureIn d pixels out) a
   -- that and what the kernel passes on are all sixteen
-  pub whole : total (kernelOf (d .kind)) + heldOf (d .kind) ≡ 16
+  pub all-sixteen : total (kernelOf (d .kind)) + heldOf (d .kind) ≡ 16
   -- what rounding takes of a pixel that is not clipped
   pub small : (a i : ℕ) → a < 3 → Unclipped (kernelOf (d .kind)) (channel (pictureIn d pixels out) a) i
       → Small (kernelOf (d .kind)) (channel (pictureIn d pixels out) a) i

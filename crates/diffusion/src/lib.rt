@@ -1,5 +1,7 @@
 // Error diffusion for one pixel: the biased colour, the residual, and the sends into a lent buffer of cells, three f32 a
-// pixel. Names and order are those of `Ditherer` in src/dither.rs.
+// pixel. `clamp_u8` and `diffuse` are named as in src/dither.rs, where the rest is the body of `Ditherer`'s
+// `diffusion_color_at`. There `clamp_u8` takes a float and `diffuse` has the cells and the size in the `Ditherer`; here
+// `clamp_u8` takes whole sixteenths, and cells and size are lent.
 ghost use mathlib.Core.Path.{_≡_};
 ghost use mathlib.Core.List.{List, map};
 ghost use Prim.Native.Nat.{ℕ, _+_, _*_, _<_, _≤_};
@@ -81,7 +83,7 @@ fn residual(biased: u8, chosen: u8) -> f32
 // ---- sends
 
 // Where a send arrives.
-pub enum Landing {
+enum Landing {
     Pixel(usize),
     Outside,
 }

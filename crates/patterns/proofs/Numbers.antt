@@ -14,7 +14,7 @@ use Rattle.patterns.specs.declared.Dither.the-variants.{Off}
 use Rattle.patterns.specs.declared.Kind.the-variants.{Known, Unknown}
 use Rattle.patterns.specs.Kinds.{kinds, kindOf, Way, plain, ordered, diffused, none, wayOf}
 use Rattle.patterns.specs.Kinds.{isWay, hasMatrix, hasKernel, isKind, isOrdered, isDiffusion}
-use Rattle.patterns.proofs.Computed.{from, agree}
+use Rattle.lists.proofs.Computed.{from, agree}
 
 named : (l : List Dither) (k : ℕ) → k < length l → Known (getD l k Off) ≡ getD (map Known l) k Unknown
 named [] k h = absurd (not-suc-le-zero h)
@@ -34,7 +34,8 @@ unfolding wayOf
 way-above k h = rw (kind-above k h)
 
 -- what a way gives is told by the kind's number
-pub by-number : {A : Type 0} (f : Way → A) (g : ℕ → A) → from (λ k. f (wayOf k)) 0 11 ≡ from g 0 11 → ((k : ℕ) → 10 < k → f none ≡ g k) → (k : ℕ) → f (wayOf k) ≡ g k
+pub by-number : {A : Type 0} (f : Way → A) (g : ℕ → A) → from (λ k. f (wayOf k)) 0 11 ≡ from g 0 11 → ((k : ℕ) → 10 < k → f none ≡ g k) → (k : ℕ)
+    → f (wayOf k) ≡ g k
 by-number f g e above k = go (ltb k 11) (ltb→lt k 11) (nltb→le k 11)
   where
     go : (b : Bool) → (T b → k < 11) → (T (not b) → 11 ≤ k) → f (wayOf k) ≡ g k

@@ -6,7 +6,8 @@ use mathlib.Core.Bool.{Bool, true, false, cond}
 use mathlib.Core.List.{List, [], _∷_, map}
 use lib.ListN.{getD}
 use Rattle.patterns.specs.declared.Dither.{Dither}
-use Rattle.patterns.specs.declared.Dither.the-variants.{Off, Bayer2x2, Bayer4x4, Bayer8x8, Checker, StippleV, StippleH, LineV, LineH, Atkinson, FloydSteinberg}
+use Rattle.patterns.specs.declared.Dither.the-variants.{Off, Bayer2x2, Bayer4x4, Bayer8x8, Checker}
+use Rattle.patterns.specs.declared.Dither.the-variants.{StippleV, StippleH, LineV, LineH, Atkinson, FloydSteinberg}
 use Rattle.patterns.specs.declared.Kind.{Kind}
 use Rattle.patterns.specs.declared.Kind.the-variants.{Known, Unknown}
 use Rattle.patterns.specs.Matrices.{bayer2x2, bayer4x4, bayer8x8, checker, stippleV, stippleH, lineV, lineH}

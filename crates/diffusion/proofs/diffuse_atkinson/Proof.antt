@@ -23,7 +23,8 @@ same-length : tie.Need-same-length
 same-length c = search needs
 
 returns : tie.Need-returns
-returns c = c .before .before .diffuse .ensures atkinson (c .before .before .before .before .before .before .before .before .before .before .atkinson-kernel .ensures)
+returns c =
+    c .before .before .diffuse .ensures atkinson (c .before .before .before .before .before .before .before .before .before .before .atkinson-kernel .ensures)
 
 pub diffuse-atkinson-spec : {M : Type 1} → statement M
 diffuse-atkinson-spec =

@@ -23,7 +23,9 @@ same-length : tie.Need-same-length
 same-length c = search needs
 
 returns : tie.Need-returns
-returns c = c .before .before .diffuse .ensures floydSteinberg (c .before .before .before .before .before .before .before .before .before .before .floyd-steinberg-kernel .ensures)
+returns c =
+    c .before .before .diffuse .ensures floydSteinberg
+    (c .before .before .before .before .before .before .before .before .before .before .floyd-steinberg-kernel .ensures)
 
 pub diffuse-floyd-steinberg-spec : {M : Type 1} → statement M
 diffuse-floyd-steinberg-spec =

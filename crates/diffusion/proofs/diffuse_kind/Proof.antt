@@ -50,18 +50,18 @@ arm p d e = ap (λ (d : Dither). kernelIn (way d)) (sym e) ∙ known p
 abbrev others : List ℕ
 others = 0 ∷ 1 ∷ 2 ∷ 3 ∷ 4 ∷ 5 ∷ 6 ∷ 7 ∷ 8 ∷ []
 
-none : (d : Dither) → OneOf others (tagOf the-type d) → [] ≡ kernelIn (way d)
-none Off h = refl
-none Bayer2x2 h = refl
-none Bayer4x4 h = refl
-none Bayer8x8 h = refl
-none Checker h = refl
-none StippleV h = refl
-none StippleH h = refl
-none LineV h = refl
-none LineH h = refl
-none Atkinson h = absurd (miss others 9 tt h)
-none FloydSteinberg h = absurd (miss others 10 tt h)
+without-kernel : (d : Dither) → OneOf others (tagOf the-type d) → [] ≡ kernelIn (way d)
+without-kernel Off h = refl
+without-kernel Bayer2x2 h = refl
+without-kernel Bayer4x4 h = refl
+without-kernel Bayer8x8 h = refl
+without-kernel Checker h = refl
+without-kernel StippleV h = refl
+without-kernel StippleH h = refl
+without-kernel LineV h = refl
+without-kernel LineH h = refl
+without-kernel Atkinson h = absurd (miss others 9 tt h)
+without-kernel FloydSteinberg h = absurd (miss others 10 tt h)
 
 dither-of-requires : tie.Need-dither-of-requires
 dither-of-requires c κs = search needs
@@ -109,7 +109,7 @@ returns-3 c =
 returns-4 : tie.Need-returns-4
 returns-4 c =
     let p = c .before in
-    by-kind (start p) [] _ (none (dither p) (c .match2 .keys3) ∙ known p) (nothing (start p))
+    by-kind (start p) [] _ (without-kernel (dither p) (c .match2 .keys3) ∙ known p) (nothing (start p))
 
 pub diffuse-kind-spec : {M : Type 1} → statement M
 diffuse-kind-spec =

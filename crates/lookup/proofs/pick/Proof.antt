@@ -1,5 +1,6 @@
 -- `pick` meets its contract: what `ordered_threshold` answers, or the colour for its threshold. Assumes nothing.
 use mathlib.Core.Path.{sym, ap, _∙_}
+use Rattle.replies.proofs.AnswerLaws.{answered}
 use Rattle.lookup.specs.declared.Picked.the-variants as picked
 use Rattle.lookup.specs.Bracket.{pickIn, pickOf}
 use borrow.Author.Needs.{needs}
@@ -23,14 +24,14 @@ unfolding pickOf
 returns c =
     let a = c .before .before .before .before .before .args in
     let t = c .before .before .before .before .ordered-threshold in
-    ap picked.Color (c .pick-at .ensures) ∙ ap (pickIn (a .bracket)) (sym (c .before .before .threshold .given .1) ∙ t .ensures)
+    ap picked.Color (c .pick-at .ensures) ∙ ap (pickIn (a .bracket)) (sym (c .before .before .threshold .given .1) ∙ answered _ _ _ (t .ensures))
 
 returns-2 : tie.Need-returns-2
 unfolding pickOf
 returns-2 c =
     let a = c .before .before .before .before .args in
     let t = c .before .before .before .ordered-threshold in
-    ap (pickIn (a .bracket)) (sym (c .before .number .given .1) ∙ t .ensures)
+    ap (pickIn (a .bracket)) (sym (c .before .number .given .1) ∙ answered _ _ _ (t .ensures))
 
 pub pick-spec : {M : Type 1} → statement M
 pick-spec =
