@@ -26,7 +26,8 @@ unfolding quantize.pixelAt quantize.finished
 quantize-left q i e = ap (λ (t : Bool). quantize.finished (q .palette) (q .scale) (quantize.entries q) t (drawn (quantizing q) i) .color) e
 
 module _ {q : quantize.Order} {indices₀ out₀ : List ℕ} {cells₀ : List Float} {indices out : List ℕ} {cells : List Float} where
-  pub quantize-accounted : Quantized q indices₀ out₀ cells₀ Accepted indices out cells → isDiffusion (q .kind) ≡ true → Accounted (quantizing q) (q .pixels) out cells
+  pub quantize-accounted : Quantized q indices₀ out₀ cells₀ Accepted indices out cells → isDiffusion (q .kind) ≡ true
+      → Accounted (quantizing q) (q .pixels) out cells
   quantize-accounted p k =
       accounted (quantizing q) (q .pixels) out cells cells₀ (λ i. refl)
       (λ i h s. quantize-laws.color-here p refl i h ∙ quantize-left q i (drawn-opaque _ (q .reduction) (q .pixels) i s))
@@ -34,7 +35,8 @@ module _ {q : quantize.Order} {indices₀ out₀ : List ℕ} {cells₀ : List Fl
 
 -- ---- `dither_to_mode`
 module _ {q : dither.Order} {was then : Buffers} {n : ℕ} where
-  pub dither-accounted : DitheredToMode q was (Count n) then → isDiffusion (q .settings .kind) ≡ true → Accounted (dithering q) (q .pixels) (then .out) (then .cells)
+  pub dither-accounted : DitheredToMode q was (Count n) then → isDiffusion (q .settings .kind) ≡ true
+      → Accounted (dithering q) (q .pixels) (then .out) (then .cells)
   unfolding cellsLeft
   dither-accounted p k =
       let accepted : numberFor q was ≡ 0 = sym (p .number) in

@@ -23,7 +23,8 @@ use Rattle.account.proofs.Shared.{cells-same}
 module _ {d : Drawing} {pixels out out′ : List ℕ} {cells cells′ : List Float} (x : Accounted d pixels out cells) (y : Accounted d pixels out′ cells′) where
   pub accounted-only : (i : ℕ) → i < d .width * d .height → d .skipped i ≡ false → normalizedAt out i ≡ normalizedAt out′ i
   accounted-only i h s =
-      unique (leftOf d pixels) (kernelOf (d .kind)) (λ a (c : NormalizedColor). byteIn a (c .0)) (pictureIn d pixels out) (pictureIn d pixels out′) (normalizedAt out) (normalizedAt out′)
+      unique (leftOf d pixels) (kernelOf (d .kind)) (λ a (c : NormalizedColor). byteIn a (c .0)) (pictureIn d pixels out) (pictureIn d pixels out′)
+      (normalizedAt out) (normalizedAt out′)
       refl refl (λ j. refl) (λ a j A. refl) (λ a j A. sym (byte-in out j a A)) (λ a j A. sym (byte-in out′ j a A))
       (d .width * d .height) (x .chosen) (y .chosen) i h (ap not s)
 
@@ -39,7 +40,8 @@ module _ {d : Drawing} {pixels out out′ : List ℕ} {cells cells′ : List Flo
   pub cells-only : cells ≡ cells′
   cells-only = x .cell-buffer ∙ cells-same (kernelOf (d .kind)) (pictureIn d pixels out) (pictureIn d pixels out′) alike ∙ sym (y .cell-buffer)
 
-module _ {d : Drawing} {pixels : List ℕ} {cells : List Float} (some : 0 < d .candidates .count) (i : ℕ) (h : i < d .width * d .height) (s : d .skipped i ≡ false) where
+module _ {d : Drawing} {pixels : List ℕ} {cells : List Float} (some : 0 < d .candidates .count) (i : ℕ) (h : i < d .width * d .height)
+    (s : d .skipped i ≡ false) where
   pub left-among : {out : List ℕ} → Accounted d pixels out cells → (c : ReducedColor) × Among (d .candidates) c × (normalizedAt out i ≡ d .normalize c)
   left-among x = (_, nearest-among (d .candidates) some _, x .chosen i h (ap not s))
 

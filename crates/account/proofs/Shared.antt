@@ -3,7 +3,7 @@
 use mathlib.Core.Path.{_≡_, refl, sym, ap, _∙_}
 use mathlib.Core.Bool.{true, false}
 use mathlib.Core.List.{List, [], _∷_}
-use Prim.Native.Nat.{ℕ, _*_, _<_}
+use Prim.Native.Nat.{ℕ, _+_, _*_, _<_}
 use native.Mathlib.Nat.{le-of-lt}
 use borrow.Author.Tests.{not-true}
 use lib.Dec.{lit<}
@@ -13,16 +13,17 @@ use Rattle.lists.proofs.GatherLaws.{gather-same}
 use Rattle.floats.specs.Over.{sixteenths}
 use Rattle.color.specs.declared.NormalizedColor.{NormalizedColor}
 use Rattle.color.specs.Color.{rgba, rgbaAt, normalizedAt}
-use Rattle.patterns.specs.Kernel.{Target, heldBack}
-use Rattle.patterns.specs.Kinds.{kindOf, wayOf, kernelOf, isDiffusion}
-use Rattle.patterns.proofs.Kernels.{atkinson-held-back, floyd-steinberg-held-back, kernel-later, kernel-total}
+use Rattle.patterns.specs.Kernel.{Target}
+use Rattle.patterns.specs.Kinds.{kernelOf, heldOf, isDiffusion}
+use Rattle.patterns.proofs.Kernels.{kernel-later, kernel-total, kernel-whole}
 use Rattle.diffusion.specs.Diffusion.{Picture, channel, cell, Alike, Follows}
 use Rattle.diffusion.specs.Sends.{byteIn}
 use Rattle.diffusion.specs.Scatter.{cellsAt, cellBuffer}
 use Rattle.diffusion.proofs.Received.{fewer, cell-same}
 use Rattle.diffusion.proofs.Unique.{follows-kept}
-use Rattle.diffusion.proofs.Account.{account, held-none}
+use Rattle.diffusion.proofs.Account.{account}
 use Rattle.diffusion.proofs.Loss.{pixel-loss-range}
+use Rattle.diffusion.proofs.Steps.{buffer-cells}
 use Rattle.drawing.specs.Drawing.{Drawing, nearestColor, pictureOf, biasedAt, drawn}
 use Rattle.drawing.specs.Lent.{cellsAfter}
 use Rattle.drawing.proofs.DrawnLaws.{drawn-diffused}
@@ -30,7 +31,8 @@ use Rattle.account.specs.Accounted.{pictureIn, leftOf, Accounted}
 use Rattle.account.proofs.Bytes.{byte-in}
 
 -- pictures that are alike have the same cells
-pub cells-same : (k : List Target) (p p′ : Picture) → ((a : ℕ) → a < 3 → Alike (channel p a) (channel p′ a) (p .width * p .height)) → cellBuffer k p ≡ cellBuffer k p′
+pub cells-same : (k : List Target) (p p′ : Picture) → ((a : ℕ) → a < 3 → Alike (channel p a) (channel p′ a) (p .width * p .height))
+    → cellBuffer k p ≡ cellBuffer k p′
 unfolding cellBuffer
 cells-same k p p′ s =
     gather-same (p .width * p .height) (λ i h t. one i h 0 (lit< tt) t ∷ one i h 1 (lit< tt) t ∷ one i h 2 (lit< tt) t ∷ [])
@@ -40,16 +42,7 @@ cells-same k p p′ s =
     one i h a A = ap sixteenths (cell-same (channel p a) (channel p′ a) k i (fewer (channel p a) (channel p′ a) (p .width * p .height) i (le-of-lt h) (s a A)))
 
 -- ---- a picture of demand 2 has its account, whatever drew it
-module _ (d : Drawing) (pixels out : List ℕ) (cells : List Float) where
-  -- kind 9 is Atkinson's, kind 10 Floyd-Steinberg's
-  four : d .kind ≡ 9 → heldBack (kernelOf (d .kind)) ≡ 4
-  unfolding kernelOf wayOf kindOf
-  four e = ap (λ (n : ℕ). heldBack (kernelOf n)) e ∙ atkinson-held-back
-
-  none : d .kind ≡ 10 → heldBack (kernelOf (d .kind)) ≡ 0
-  unfolding kernelOf wayOf kindOf
-  none e = ap (λ (n : ℕ). heldBack (kernelOf n)) e ∙ floyd-steinberg-held-back
-
+module _ (d : Drawing) (pixels out : List ℕ) (cells : List Float) (kind : isDiffusion (d .kind) ≡ true) where
   from-picture : Follows (leftOf d pixels) (kernelOf (d .kind)) (pictureIn d pixels out) (normalizedAt out) (d .width * d .height)
       → cells ≡ cellBuffer (kernelOf (d .kind)) (pictureIn d pixels out) → Accounted d pixels out cells
   from-picture chosen spent =
@@ -58,9 +51,9 @@ module _ (d : Drawing) (pixels out : List ℕ) (cells : List Float) where
       record {
         chosen = chosen;
         cell-buffer = spent;
-        balanced = λ a A. account k (channel p a) (kernel-later (d .kind)) (kernel-total (d .kind));
-        four-held = four;
-        none-held = λ e a A. held-none k (channel p a) (none e);
+        exact-cells = λ bytes. (_, buffer-cells k p (kernel-later (d .kind)) (kernel-total (d .kind)) (λ a j A. bytes (4 * j + a)) cells spent);
+        balanced = λ a A. account k (heldOf (d .kind)) (channel p a) (kernel-later (d .kind)) (kernel-whole (d .kind) kind);
+        all-sixteen = kernel-whole (d .kind) kind;
         small = λ a i A u. let l = pixel-loss-range k (channel p a) i (u .low) (u .high) in record { low = l .0; high = l .1 };
       }
 
@@ -83,11 +76,13 @@ module _ (d : Drawing) (pixels out : List ℕ) (cells was : List Float) (source 
   unfolding biasedAt rgbaAt
   follows i h e =
       ap (d .normalize) (drawn-diffused d i (not-true _ e) kind)
-      ∙ (λ t. d .normalize (nearestColor (d .candidates) (record { 0 = rgba (biasedAt d (drawn d) i .0 .r) (biasedAt d (drawn d) i .0 .g) (biasedAt d (drawn d) i .0 .b) (source i t .0 .a) })))
+      ∙ (λ t. d .normalize (nearestColor (d .candidates)
+      (record { 0 = rgba (biasedAt d (drawn d) i .0 .r) (biasedAt d (drawn d) i .0 .g) (biasedAt d (drawn d) i .0 .b) (source i t .0 .a) })))
 
   pub accounted : cells ≡ cellsAfter d was → Accounted d pixels out cells
   unfolding cellsAfter
   accounted e =
-      from-picture d pixels out cells
-      (follows-kept (leftOf d pixels) (kernelOf (d .kind)) (pictureOf d (drawn d)) (pictureIn d pixels out) (λ i. d .normalize (drawn d i)) (normalizedAt out) (d .width * d .height) alike (λ i h s. sym (left i h (not-true _ s))) follows)
+      from-picture d pixels out cells kind
+      (follows-kept (leftOf d pixels) (kernelOf (d .kind)) (pictureOf d (drawn d)) (pictureIn d pixels out) (λ i. d .normalize (drawn d i))
+      (normalizedAt out) (d .width * d .height) alike (λ i h s. sym (left i h (not-true _ s))) follows)
       (e ∙ rw kind (cells-same (kernelOf (d .kind)) (pictureOf d (drawn d)) (pictureIn d pixels out) alike))

@@ -1,16 +1,20 @@
 -- Oklab distances. A component that passes the test of range is `Within 2`; so the distance of accepted colours is finite, at most 112, not
--- negative and not -0, and ordinary comparison puts such distances in their order. Assumes nothing.
+-- negative and not -0, and ordinary comparison puts such distances in their order. And what `oklab_sqdist` answers, by its number. Assumes nothing.
 use mathlib.Core.Path.{_≡_, refl}
-use Prim.Native.Nat.{_≤_}
-use mathlib.Core.Bool.{Bool, _&&_}
-use lib.Dec.{T, lit≤}
-use lib.Ieee.{Float, binary32, add, sub, mul, neg, le, ofBits, fits}
+use Prim.Native.Nat.{ℕ, zero, suc}
+use mathlib.Core.Bool.{_&&_}
+use lib.Dec.{T, lit≤, lit<}
+use lib.Ieee.{Float, binary32, round, add, sub, mul, neg, le, ofBits, fits}
 use lib.Ieee.Fits.{and-l, and-r, and-i, add-fits}
+use Rattle.replies.proofs.AnswerLaws.{answered, answers}
+use Rattle.floats.specs.Over.{over}
 use Rattle.floats.specs.Bounds.{Within, Upto}
 use Rattle.floats.proofs.Range.{within-of-le, le-of-within}
-use Rattle.floats.proofs.Within.{mul-upto, square-upto, add-upto, sub-within}
+use Rattle.floats.proofs.Within.{round-upto, mul-upto, square-upto, add-upto, sub-within}
 use Rattle.color.specs.declared.Oklab.{Oklab}
+use Rattle.color.specs.declared.Distance.{Distance}
 use Rattle.color.specs.Oklab.{two, chroma, square, inRange, allInRange, sqdistOf}
+use Rattle.color.specs.Oklab.{numberOf, distanceReplies, distanceAnswer, OklabSqdistAnswered, distanceOf}
 
 -- ---- components
 pub in-range : (x : Float) → T (inRange x) → Within 2 x
@@ -42,9 +46,14 @@ unfolding allInRange
 range-all-in c h = and-i (inRange (c .l)) _ (range-in (c .l) (h .l)) (and-i (inRange (c .a)) (inRange (c .b)) (range-in (c .a) (h .a)) (range-in (c .b) (h .b)))
 
 -- ---- the distance
+-- the code's weight is the f32 nearest to 2.15
+pub chroma-is : ofBits binary32 0x4009_999a ≡ chroma
+unfolding ofBits over round
+chroma-is = refl
+
 chroma-upto : Upto 3 chroma
-unfolding ofBits
-chroma-upto = lit≤ tt
+unfolding over
+chroma-upto = round-upto 3 215 100 (lit< tt) (lit≤ tt) (lit≤ tt)
 
 -- the square of the difference of two components
 part-upto : (x y : Float) → Within 2 x → Within 2 y → Upto 16 (square (sub binary32 x y))
@@ -65,3 +74,16 @@ unfolding sqdistOf
 distance-fits p q =
     add-fits binary32 (square (sub binary32 (p .l) (q .l)))
     (mul binary32 chroma (add binary32 (square (sub binary32 (p .a) (q .a))) (square (sub binary32 (p .b) (q .b)))))
+
+-- ---- the answer
+module _ (a b : Oklab) where
+  -- what is answered with a number has that number
+  own : (n : ℕ) → numberOf (distanceAnswer a b n) ≡ n
+  own zero = refl
+  own (suc n) = refl
+
+  pub distance-promised : {r : Distance} → r ≡ distanceOf a b → OklabSqdistAnswered a b r
+  distance-promised e = answers numberOf (distanceReplies a b) (distanceAnswer a b) own e
+
+  pub distance-answered : {r : Distance} → OklabSqdistAnswered a b r → r ≡ distanceOf a b
+  distance-answered p = answered numberOf (distanceReplies a b) (distanceAnswer a b) p

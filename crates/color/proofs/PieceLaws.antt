@@ -39,7 +39,8 @@ module _ (f : ℕ → Rgba8888) where
 
   pub rgba-rest : (d : List ℕ) (i : ℕ) → rgbaAt (filled 4 i (λ k. bytesOf (f k)) d) i ≡ rgbaAt d i
   unfolding rgbaAt
-  rgba-rest d i = λ t. rgba (rest (4 * i) (omega arith) t) (rest (4 * i + 1) (omega arith) t) (rest (4 * i + 2) (omega arith) t) (rest (4 * i + 3) (omega arith) t)
+  rgba-rest d i =
+      λ t. rgba (rest (4 * i) (omega arith) t) (rest (4 * i + 1) (omega arith) t) (rest (4 * i + 2) (omega arith) t) (rest (4 * i + 3) (omega arith) t)
     where
       rest : (m : ℕ) → 4 * i ≤ m → getD (filled 4 i (λ k. bytesOf (f k)) d) m 0 ≡ getD d m 0
       rest m l = filled-rest 4 (λ k. bytesOf (f k)) (λ k. refl) 0 d i m l

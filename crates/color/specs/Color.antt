@@ -1,6 +1,7 @@
 -- The RGBA record and the two kinds of colour over it. Definitions only.
 -- Written from document 01: "Which document decides" and "Which places take which form".
 use Prim.Native.Nat.{ℕ, _+_, _*_}
+use mathlib.Core.Path.{_≡_}
 use mathlib.Core.Bool.{Bool, _&&_}
 use mathlib.Core.List.{List, [], _∷_}
 use lib.Dec.{eqb}
@@ -26,6 +27,10 @@ isTransparent c = eqb (c .a) 0
 -- the same red, green and blue, whatever the alphas are
 unfoldable pub sameRgb : ReducedColor → ReducedColor → Bool
 sameRgb a b = eqb (a .0 .r) (b .0 .r) && (eqb (a .0 .g) (b .0 .g) && eqb (a .0 .b) (b .0 .b))
+
+-- what `eq_rgb` promises of its answer t
+abbrev pub EqRgbAnswered : (a b : ReducedColor) → Bool → Type 0
+EqRgbAnswered a b t = t ≡ sameRgb a b
 
 -- the same four bytes: the test for equal colours (proofs/Same)
 unfoldable pub sameReduced : ReducedColor → ReducedColor → Bool

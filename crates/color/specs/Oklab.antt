@@ -1,21 +1,25 @@
 -- Oklab colours and their weighted squared distance, in the Rust's order of operations, each rounded to an f32. Definitions only.
 -- Written from `oklab_sqdist` of src/color.rs, and from document 01: "weight 2.15", and refusal 6.
-use Prim.Native.Nat.{ℕ, _+_, _*_}
-use mathlib.Core.Bool.{Bool, _&&_, cond, false}
+use Prim.Native.Nat.{ℕ, zero, suc, _+_, _*_}
+use mathlib.Core.Bool.{Bool, _&&_, not, false}
 use mathlib.Core.List.{List, [], _∷_}
 use lib.IntN.{pos}
 use lib.ListN.{getD}
-use lib.Ieee.{Float, nan, fin, binary32, add, sub, mul, neg, le, ofBits}
+use lib.Ieee.{Float, nan, fin, binary32, add, sub, mul, neg, le}
+use Rattle.replies.specs.Replies.{Reply, _if_, firstReply}
+use Rattle.replies.specs.Answers.{Answers}
+use Rattle.floats.specs.Over.{over}
 use Rattle.color.specs.declared.Oklab.{Oklab}
 use Rattle.color.specs.declared.Distance.{Distance}
 use Rattle.color.specs.declared.Distance.the-variants.{Squared, Refused}
 
--- 2.0, and the f32 nearest to 2.15
+-- 2.0
 abbrev pub two : Float
 two = fin false 1 (pos 1)
 
+-- "weight 2.15": the f32 nearest to 215 / 100
 abbrev pub chroma : Float
-chroma = ofBits binary32 0x4009_999a
+chroma = over 100 (pos 215)
 
 -- from -2 to 2; a NaN is not
 unfoldable pub inRange : Float → Bool
@@ -33,14 +37,27 @@ sqdistOf a b =
     add binary32 (square (sub binary32 (a .l) (b .l)))
     (mul binary32 chroma (add binary32 (square (sub binary32 (a .a) (b .a))) (square (sub binary32 (a .b) (b .b)))))
 
--- what `oklab_sqdist` answers: the distance, or 6 where a component is not from -2 to 2
-unfoldable pub distanceOf : Oklab → Oklab → Distance
-distanceOf a b = cond (allInRange a && allInRange b) (Squared (sqdistOf a b)) (Refused 6)
-
 -- document 01's number of an answer
 abbrev pub numberOf : Distance → ℕ
 numberOf (Squared d) = 0
 numberOf (Refused n) = n
+
+-- the numbers of `oklab_sqdist`, and when each applies: 6 where a component is not from -2 to 2
+abbrev pub distanceReplies : (a b : Oklab) → List Reply
+distanceReplies a b = (6 if not (allInRange a && allInRange b)) ∷ []
+
+-- what it answers with a number: the distance with 0, and else the number alone
+abbrev pub distanceAnswer : (a b : Oklab) → ℕ → Distance
+distanceAnswer a b zero = Squared (sqdistOf a b)
+distanceAnswer a b (suc n) = Refused (suc n)
+
+-- what `oklab_sqdist` promises of its answer r
+abbrev pub OklabSqdistAnswered : (a b : Oklab) → Distance → Type 0
+OklabSqdistAnswered a b r = Answers numberOf (distanceReplies a b) (distanceAnswer a b) r
+
+-- the answer that has the promise (proofs/Distances, `distance-answered`)
+abbrev pub distanceOf : (a b : Oklab) → Distance
+distanceOf a b = distanceAnswer a b (firstReply (distanceReplies a b))
 
 -- colour i of a list of floats, three a colour
 unfoldable pub oklabAt : List Float → ℕ → Oklab

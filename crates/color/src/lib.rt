@@ -1,12 +1,15 @@
 // The colours of the dither: an RGBA record, the two kinds of colour over it, Oklab colours with their distance, and
-// the two crossings between the kinds, through the lent tables. Names and order are those of src/color.rs.
+// the two crossings between the kinds, through the lent tables. `Rgba8888`, `NormalizedColor`, `ReducedColor`,
+// `CandidateColor`, `eq_rgb` and `oklab_sqdist` are named as in src/color.rs, `reduce_color` and `normalize_color` as in
+// src/mode/color.rs. There `oklab_sqdist` answers for every colour, as `sqdist` does here; `is_transparent` is asked of
+// reduced colours alone. All else that is not there is added.
 ghost use mathlib.Core.Path.{_≡_};
 ghost use Prim.Native.Nat.{_+_, _*_, _<_};
 ghost use lib.ListN.{length, getD};
 ghost use lib.Seq.{sets};
-ghost use Rattle.color.specs.Color.{rgba, isTransparent, sameRgb, sameReduced, rgbaAt, bytesOf};
+ghost use Rattle.color.specs.Color.{rgba, isTransparent, sameReduced, EqRgbAnswered, rgbaAt, bytesOf};
 ghost use Rattle.color.specs.Tables.{reduceColor, normalizeColor};
-ghost use Rattle.color.specs.Oklab.{inRange, allInRange, sqdistOf, distanceOf, oklabAt, floatsOf};
+ghost use Rattle.color.specs.Oklab.{inRange, allInRange, sqdistOf, OklabSqdistAnswered, oklabAt, floatsOf};
 
 // A raw colour, eight bits a channel.
 pub struct Rgba8888 {
@@ -28,12 +31,6 @@ impl Rgba8888 {
         ensures { λ c. ⌜ c ≡ rgba r g b a ⌝ }
     {
         Rgba8888 { r, g, b, a }
-    }
-
-    pub fn is_transparent(self) -> bool
-        ensures { λ t. ⌜ t ≡ isTransparent self ⌝ }
-    {
-        self.a == 0
     }
 }
 
@@ -71,7 +68,7 @@ impl ReducedColor {
 
 // Whether two colours have the same red, green and blue, whatever their alphas are.
 pub fn eq_rgb(a: ReducedColor, b: ReducedColor) -> bool
-    ensures { λ t. ⌜ t ≡ sameRgb a b ⌝ }
+    ensures { λ t. ⌜ EqRgbAnswered a b t ⌝ }
 {
     (a.0.r == b.0.r) & ((a.0.g == b.0.g) & (a.0.b == b.0.b))
 }
@@ -200,7 +197,7 @@ pub fn sqdist(a: Oklab, b: Oklab) -> f32
 
 // The squared distance, or 6 where a component is not from -2 to 2.
 pub fn oklab_sqdist(a: Oklab, b: Oklab) -> Distance
-    ensures { λ r. ⌜ r ≡ distanceOf a b ⌝ }
+    ensures { λ r. ⌜ OklabSqdistAnswered a b r ⌝ }
 {
     if all_in_range(a) & all_in_range(b) {
         return Distance::Squared(sqdist(a, b));

@@ -1,5 +1,4 @@
 -- The laws of `conversion`.
-pub mod Table
 pub mod LinearLaws
 pub mod RootLaws
 pub mod NearestLaws

@@ -117,13 +117,15 @@ spread : (d p n u v : ℕ) → (pos p -ℤ pos n) *ℤ pos 2 -ℤ (pos u -ℤ po
 spread d p n u v =
     rw (sub-times (pos p) (pos n) 2, sub-times (pos u) (pos v) (2 * d)) (crossed (pos (p * 2)) (pos (n * 2)) (pos (u * (2 * d))) (pos (v * (2 * d))))
 
-nearest-of : (d p n u v : ℕ) → n * 2 + u * (2 * d) ≤ p * 2 + v * (2 * d) + d → p * 2 + v * (2 * d) < n * 2 + u * (2 * d) + d → Nearest d (pos p -ℤ pos n) (pos u -ℤ pos v)
+nearest-of : (d p n u v : ℕ) → n * 2 + u * (2 * d) ≤ p * 2 + v * (2 * d) + d → p * 2 + v * (2 * d) < n * 2 + u * (2 * d) + d
+    → Nearest d (pos p -ℤ pos n) (pos u -ℤ pos v)
 nearest-of d p n u v h k = record {
   low = subst (λ (w : ℤ). negℤ (pos d) ≤ℤ w) (sym (spread d p n u v)) (low-of d (p * 2 + v * (2 * d)) (n * 2 + u * (2 * d)) h);
   high = subst (λ (w : ℤ). w <ℤ pos d) (sym (spread d p n u v)) (high-of d (p * 2 + v * (2 * d)) (n * 2 + u * (2 * d)) k);
 }
 
-of-nearest : (d p n u v : ℕ) → Nearest d (pos p -ℤ pos n) (pos u -ℤ pos v) → (n * 2 + u * (2 * d) ≤ p * 2 + v * (2 * d) + d) × (p * 2 + v * (2 * d) < n * 2 + u * (2 * d) + d)
+of-nearest : (d p n u v : ℕ) → Nearest d (pos p -ℤ pos n) (pos u -ℤ pos v)
+    → (n * 2 + u * (2 * d) ≤ p * 2 + v * (2 * d) + d) × (p * 2 + v * (2 * d) < n * 2 + u * (2 * d) + d)
 of-nearest d p n u v h = (
   of-low d (p * 2 + v * (2 * d)) (n * 2 + u * (2 * d)) (subst (λ (w : ℤ). negℤ (pos d) ≤ℤ w) (spread d p n u v) (h .low)),
   of-high d (p * 2 + v * (2 * d)) (n * 2 + u * (2 * d)) (subst (λ (w : ℤ). w <ℤ pos d) (spread d p n u v) (h .high)),
@@ -179,7 +181,8 @@ module _ (d p n : ℕ) (D : 0 < d) where
       let A = div-mul-le-self k (2 * d) in
       let B = lt-div-mul-add {a = k} M in
       let C = suc-mul q (2 * d) in
-      subst (λ (y : ℤ). Nearest d (pos p -ℤ pos n) y) (sym (ap (λ (y : ℤ). floor y (2 * d)) (raised ∙ difference-down (p * 2 + d) (n * 2) h) ∙ parts (negsuc q)))
+      subst (λ (y : ℤ). Nearest d (pos p -ℤ pos n) y)
+      (sym (ap (λ (y : ℤ). floor y (2 * d)) (raised ∙ difference-down (p * 2 + d) (n * 2) h) ∙ parts (negsuc q)))
       (nearest-of d p n 0 (suc q) (omega arith) (omega arith))
 
 pub nearest-is : (d : ℕ) (z : ℤ) → 0 < d → Nearest d z (nearest d z)

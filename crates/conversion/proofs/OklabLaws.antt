@@ -70,6 +70,7 @@ ranged c R G B =
     }
 
 -- from linear values: what the code answers is the colour's
-pub converted : (c : NormalizedColor) (r g b : ℕ) (o : Oklab) → r ≡ linearOf (c .0 .r) → g ≡ linearOf (c .0 .g) → b ≡ linearOf (c .0 .b) → o ≡ oklabOf (millionthsOf r g b) → o ≡ toOklab c
+pub converted : (c : NormalizedColor) (r g b : ℕ) (o : Oklab) → r ≡ linearOf (c .0 .r) → g ≡ linearOf (c .0 .g) → b ≡ linearOf (c .0 .b)
+    → o ≡ oklabOf (millionthsOf r g b) → o ≡ toOklab c
 unfolding toOklab
 converted c r g b o R G B e = e ∙ (λ i. oklabOf (millionthsOf (R i) (G i) (B i)))

@@ -1,10 +1,9 @@
 -- The public call of `conversion` leaves one answer. Assumes nothing.
-use mathlib.Core.Path.{_≡_}
 use Rattle.replies.specs.Unique.{Unique}
 use Rattle.replies.proofs.UniqueLaws.{equal-only}
 use Rattle.color.specs.declared.NormalizedColor.{NormalizedColor}
 use Rattle.color.specs.declared.Oklab.{Oklab}
-use Rattle.conversion.specs.Oklab.{toOklab}
+use Rattle.conversion.specs.Oklab.{toOklab, ToOklabAnswered}
 
-pub to-oklab-unique : (c : NormalizedColor) → Unique (λ (o : Oklab). o ≡ toOklab c)
+pub to-oklab-unique : (c : NormalizedColor) → Unique (λ (o : Oklab). ToOklabAnswered c o)
 to-oklab-unique c = equal-only (toOklab c)

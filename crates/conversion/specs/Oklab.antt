@@ -1,5 +1,6 @@
 -- The conversion of a colour to Oklab, exact up to the last step. Definitions only.
 -- Written from document 01, "Conversion", its second to last points; the coefficients are those of the published Oklab definition, times 10^10.
+use mathlib.Core.Path.{_≡_}
 use Prim.Native.Nat.{ℕ, _+_, _*_, _^_, _≤_}
 use lib.IntN.{ℤ, pos, _+ℤ_, _-ℤ_}
 use Rattle.floats.specs.Over.{millionths}
@@ -58,3 +59,7 @@ oklabOf n = record { l = millionths (n .lightness); a = millionths (n .a); b = m
 
 unfoldable pub toOklab : NormalizedColor → Oklab
 toOklab c = oklabOf (millionthsAt c)
+
+-- what `to_oklab` promises of its answer o
+abbrev pub ToOklabAnswered : NormalizedColor → Oklab → Type 0
+ToOklabAnswered c o = o ≡ toOklab c

@@ -2,7 +2,7 @@
 // the roots in millionths. All is exact but the last step, the millionths as f32 values.
 pub mod linear;
 pub mod list;
-pub mod root;
+mod root;
 
 use color::NormalizedColor;
 use color::Oklab;
@@ -16,7 +16,7 @@ ghost use Rattle.floats.specs.Over.{millionths};
 ghost use Rattle.conversion.specs.Linear.{values};
 ghost use Rattle.conversion.specs.Root.{rootOf};
 ghost use Rattle.conversion.specs.Nearest.{nearest, RaisedQuotient};
-ghost use Rattle.conversion.specs.Oklab.{AtMost, lOf, mOf, sOf, lightnessOf, aOf, bOf, millionthsFrom, millionthsOf, oklabOf, toOklab};
+ghost use Rattle.conversion.specs.Oklab.{AtMost, lOf, mOf, sOf, lightnessOf, aOf, bOf, millionthsFrom, millionthsOf, oklabOf, toOklab, ToOklabAnswered};
 
 // ---- the cube roots of l, m, s, from linear r, g, b
 
@@ -127,7 +127,7 @@ pub fn to_oklab_with(linear: &[u64; 256], c: NormalizedColor) -> Oklab
 
 // The Oklab colour of a colour. Many colours go faster by `to_oklab_with`, over one table that is lent.
 pub fn to_oklab(c: NormalizedColor) -> Oklab
-    ensures { λ o. ⌜ o ≡ toOklab c ⌝ }
+    ensures { λ o. ⌜ ToOklabAnswered c o ⌝ }
 {
     let x = linear_three(c.0.r, c.0.g, c.0.b);
     linear_to_oklab(x.r, x.g, x.b)

@@ -6,10 +6,10 @@ ghost use lib.ListN.{length};
 ghost use Rattle.conversion.specs.Linear.{values, linearOf, inBytes};
 
 // The linear values of a colour's red, green and blue.
-pub struct Three {
-    pub r: u64,
-    pub g: u64,
-    pub b: u64,
+pub(crate) struct Three {
+    pub(crate) r: u64,
+    pub(crate) g: u64,
+    pub(crate) b: u64,
 }
 
 const LINEAR: [u64; 256] = [
@@ -279,7 +279,7 @@ pub fn linear_table() -> [u64; 256]
 }
 
 // The linear value of byte k, by the table that is lent. No public call: the caller sees to the table.
-pub fn linear_at(t: &[u64; 256], k: u8) -> u64
+pub(crate) fn linear_at(t: &[u64; 256], k: u8) -> u64
     requires { ⌜ now t ≡ values ⌝ }
     ensures { λ x. ⌜ x ≡ linearOf k ⌝ }
 {
@@ -316,7 +316,7 @@ fn three_in(t: &[u8; 1024], r: u8, g: u8, b: u8) -> Three
 
 // The linear values of three bytes alone. Constants are written out anew wherever they are named; in bytes, four to a value
 // and the lowest first, the table takes 64 stores of 16 bytes and not 256.
-pub fn linear_three(r: u8, g: u8, b: u8) -> Three
+pub(crate) fn linear_three(r: u8, g: u8, b: u8) -> Three
     ensures { λ x. ⌜ x ≡ (record { r = linearOf r; g = linearOf g; b = linearOf b }) ⌝ }
 {
     three_in(

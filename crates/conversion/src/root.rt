@@ -1,5 +1,5 @@
-// The largest whole number whose cube does not exceed n. Floats give an estimate, of which nothing is promised; whole steps
-// go from there to the root.
+// The largest whole number whose cube does not exceed n. Floats give an estimate, of which a bound is promised and no more;
+// whole steps go from there to the root.
 ghost use mathlib.Core.Path.{_≡_};
 ghost use Prim.Native.Nat.{_≤_, _<_};
 ghost use Rattle.conversion.specs.Root.{cube, rootOf};
@@ -79,7 +79,7 @@ fn raised(n: u64, start: u64) -> u64
 }
 
 // The root of n. No public call: the caller sees to the bound.
-pub fn cube_root(n: u64) -> u64
+pub(crate) fn cube_root(n: u64) -> u64
     requires { ⌜ n ≤ 1000000000000000000 ⌝ }
     ensures { λ r. ⌜ r ≡ rootOf n ⌝ }
 {

@@ -1,16 +1,15 @@
--- The colour account of a dithered channel, for any kernel whose targets come later in the scan and whose weights total at most sixteen: sixteen
--- times sources less choices is what was lost, what reached skipped pixels, what was dropped and what was held back. Each pixel's equation is
--- summed; the cells of the dithered pixels are what was sent to dithered pixels, and cancel. Assumes nothing.
+-- The colour account of a dithered channel, for any kernel whose targets come later in the scan and whose weights, with the number that is held back,
+-- are sixteen: sixteen times sources less choices is what was lost, what reached skipped pixels, what was dropped and what was held back. Each
+-- pixel's equation is summed; the cells of the dithered pixels are what was sent to dithered pixels, and cancel. Assumes nothing.
 use mathlib.Core.Path.{_≡_, refl, sym, ap, _∙_}
 use mathlib.Core.Bool.{Bool, true, false, cond, not}
 use mathlib.Core.List.{List, [], _∷_}
-use Prim.Native.Nat.{ℕ, _+_, _-_, _*_, _≤_, _<_}
+use Prim.Native.Nat.{ℕ, _+_, _*_, _<_}
 use native.Mathlib.Nat.{le-of-lt}
-use native.Mathlib.Omega.{arith}
 use lib.Dec.{T, eqb}
 use lib.IntN.{ℤ, pos, _+ℤ_, _-ℤ_, _*ℤ_, +ℤ-idl, +ℤ-idr, +ℤ-negℤ-cancel, -ℤ-+ℤ-cancel, zero-*ℤ, *ℤ-zero, *ℤ-comm}
 use Rattle.diffusion.specs.Biased.{biasedOf}
-use Rattle.patterns.specs.Kernel.{Target, Place, pixel, outside, landing, total, heldBack, later}
+use Rattle.patterns.specs.Kernel.{Target, Place, pixel, outside, landing, total, later}
 use Rattle.diffusion.specs.Sum.{sum}
 use Rattle.diffusion.specs.Diffusion.{Channel, isAt, weightTo, residualOf, cell, residual, lossOf, loss}
 use Rattle.diffusion.specs.Account.{overDithered, sources, choices, excess, lost, sent, sentTo, isSkipped, isOutside, toSkipped, dropped, held}
@@ -23,7 +22,8 @@ use Rattle.diffusion.proofs.Received.{received-sum, settled}
 module _ (c : Channel) where
   over-same : (f g : ℕ → ℤ) → ((i : ℕ) → i < c .width * c .height → c .dithered i ≡ true → f i ≡ g i) → overDithered c f ≡ overDithered c g
   unfolding overDithered
-  over-same f g h = sum-same (λ i. cond (c .dithered i) (f i) (pos 0)) (λ i. cond (c .dithered i) (g i) (pos 0)) (c .width * c .height) (λ i l. go (c .dithered i) (h i l))
+  over-same f g h =
+      sum-same (λ i. cond (c .dithered i) (f i) (pos 0)) (λ i. cond (c .dithered i) (g i) (pos 0)) (c .width * c .height) (λ i l. go (c .dithered i) (h i l))
     where
       go : (b : Bool) {x y : ℤ} → (b ≡ true → x ≡ y) → cond b x (pos 0) ≡ cond b y (pos 0)
       go true e = e refl
@@ -32,7 +32,8 @@ module _ (c : Channel) where
   over-add : (f g : ℕ → ℤ) → overDithered c (λ i. f i +ℤ g i) ≡ overDithered c f +ℤ overDithered c g
   unfolding overDithered
   over-add f g =
-      sum-same (λ i. cond (c .dithered i) (f i +ℤ g i) (pos 0)) (λ i. cond (c .dithered i) (f i) (pos 0) +ℤ cond (c .dithered i) (g i) (pos 0)) (c .width * c .height) (λ i l. go (c .dithered i) (f i) (g i))
+      sum-same (λ i. cond (c .dithered i) (f i +ℤ g i) (pos 0)) (λ i. cond (c .dithered i) (f i) (pos 0) +ℤ cond (c .dithered i) (g i) (pos 0))
+      (c .width * c .height) (λ i l. go (c .dithered i) (f i) (g i))
       ∙ sum-add (λ i. cond (c .dithered i) (f i) (pos 0)) (λ i. cond (c .dithered i) (g i) (pos 0)) (c .width * c .height)
     where
       go : (b : Bool) (x y : ℤ) → cond b (x +ℤ y) (pos 0) ≡ cond b x (pos 0) +ℤ cond b y (pos 0)
@@ -42,7 +43,8 @@ module _ (c : Channel) where
   over-times : (f : ℕ → ℤ) (w : ℕ) → overDithered c (λ i. f i *ℤ pos w) ≡ overDithered c f *ℤ pos w
   unfolding overDithered
   over-times f w =
-      sum-same (λ i. cond (c .dithered i) (f i *ℤ pos w) (pos 0)) (λ i. cond (c .dithered i) (f i) (pos 0) *ℤ pos w) (c .width * c .height) (λ i l. go (c .dithered i) (f i))
+      sum-same (λ i. cond (c .dithered i) (f i *ℤ pos w) (pos 0)) (λ i. cond (c .dithered i) (f i) (pos 0) *ℤ pos w) (c .width * c .height)
+      (λ i l. go (c .dithered i) (f i))
       ∙ sum-times (λ i. cond (c .dithered i) (f i) (pos 0)) w (c .width * c .height)
     where
       go : (b : Bool) (x : ℤ) → cond b (x *ℤ pos w) (pos 0) ≡ cond b x (pos 0) *ℤ pos w
@@ -70,11 +72,13 @@ module _ (c : Channel) where
       go false = simp (+ℤ-idl, +ℤ-idr)
   one-of-three outside x = simp +ℤ-idl
 
-  all-sent : (k : List Target) (w h i : ℕ) (r : ℤ) → sent (isDithered c) k w h i r +ℤ (sent (isSkipped c) k w h i r +ℤ sent isOutside k w h i r) ≡ r *ℤ pos (total k)
+  all-sent : (k : List Target) (w h i : ℕ) (r : ℤ)
+      → sent (isDithered c) k w h i r +ℤ (sent (isSkipped c) k w h i r +ℤ sent isOutside k w h i r) ≡ r *ℤ pos (total k)
   unfolding sent total
   all-sent [] w h i r = sym (*ℤ-zero r)
   all-sent (t ∷ k) w h i r =
-      shuffle (part (isDithered c)) (sent (isDithered c) k w h i r) (part (isSkipped c)) (sent (isSkipped c) k w h i r) (part isOutside) (sent isOutside k w h i r)
+      shuffle (part (isDithered c)) (sent (isDithered c) k w h i r) (part (isSkipped c)) (sent (isSkipped c) k w h i r) (part isOutside)
+      (sent isOutside k w h i r)
       ∙ (λ q. one-of-three (landing w h i t) (r *ℤ pos (t .weight)) q +ℤ all-sent k w h i r q)
       ∙ sym (times-add r (t .weight) (total k))
     where
@@ -99,7 +103,8 @@ module _ (c : Channel) where
       → sum (λ i. cond (c .dithered i) (r *ℤ pos (cond (isAt i p) v 0)) (pos 0)) n ≡ cond (isDithered c p) (r *ℤ pos v) (pos 0)
   unfolding isDithered isAt
   get-one r v n (pixel m) h =
-      sum-same (λ i. cond (c .dithered i) (r *ℤ pos (cond (eqb m i) v 0)) (pos 0)) (λ i. cond (eqb m i) (cond (c .dithered i) (r *ℤ pos v) (pos 0)) (pos 0)) n (λ i l. go (c .dithered i) (eqb m i))
+      sum-same (λ i. cond (c .dithered i) (r *ℤ pos (cond (eqb m i) v 0)) (pos 0))
+      (λ i. cond (eqb m i) (cond (c .dithered i) (r *ℤ pos v) (pos 0)) (pos 0)) n (λ i l. go (c .dithered i) (eqb m i))
       ∙ sum-one (λ i. cond (c .dithered i) (r *ℤ pos v) (pos 0)) m n (h m refl)
     where
       go : (b e : Bool) → cond b (r *ℤ pos (cond e v 0)) (pos 0) ≡ cond e (cond b (r *ℤ pos v) (pos 0)) (pos 0)
@@ -109,11 +114,14 @@ module _ (c : Channel) where
       go false false = refl
   get-one r v n outside h = sum-zero (λ i. cond (c .dithered i) (r *ℤ pos 0) (pos 0)) n (λ i l. nothing (c .dithered i) r)
 
-  get-all : (k : List Target) (w h j : ℕ) (r : ℤ) → sum (λ i. cond (c .dithered i) (r *ℤ pos (weightTo k w h j i)) (pos 0)) (w * h) ≡ sent (isDithered c) k w h j r
+  get-all : (k : List Target) (w h j : ℕ) (r : ℤ)
+      → sum (λ i. cond (c .dithered i) (r *ℤ pos (weightTo k w h j i)) (pos 0)) (w * h) ≡ sent (isDithered c) k w h j r
   unfolding weightTo sent
   get-all [] w h j r = sum-zero (λ i. cond (c .dithered i) (r *ℤ pos 0) (pos 0)) (w * h) (λ i l. nothing (c .dithered i) r)
   get-all (t ∷ k) w h j r =
-      sum-same (λ i. cond (c .dithered i) (r *ℤ pos (part i + rest i)) (pos 0)) (λ i. cond (c .dithered i) (r *ℤ pos (part i)) (pos 0) +ℤ cond (c .dithered i) (r *ℤ pos (rest i)) (pos 0)) (w * h) (λ i l. go (c .dithered i) (part i) (rest i))
+      sum-same (λ i. cond (c .dithered i) (r *ℤ pos (part i + rest i)) (pos 0))
+      (λ i. cond (c .dithered i) (r *ℤ pos (part i)) (pos 0) +ℤ cond (c .dithered i) (r *ℤ pos (rest i)) (pos 0)) (w * h)
+      (λ i l. go (c .dithered i) (part i) (rest i))
       ∙ sum-add (λ i. cond (c .dithered i) (r *ℤ pos (part i)) (pos 0)) (λ i. cond (c .dithered i) (r *ℤ pos (rest i)) (pos 0)) (w * h)
       ∙ (λ q. get-one r (t .weight) (w * h) (landing w h j t) (λ m e. landing-inside w h j t m e) q +ℤ get-all k w h j r q)
     where
@@ -132,9 +140,13 @@ module _ (k : List Target) (c : Channel) (s : T (later k)) where
   cells-are-sends : overDithered c (cell k c) ≡ sentTo (isDithered c) k c
   unfolding overDithered sentTo residual residualOf
   cells-are-sends =
-      sum-same (λ i. cond (c .dithered i) (cell k c i) (pos 0)) (λ i. sum (λ j. cond (c .dithered i) (send j i) (pos 0)) size) size (λ i l. ap (λ (x : ℤ). cond (c .dithered i) x (pos 0)) (sym (settled k c s size i (le-of-lt l)) ∙ received-sum k c size i) ∙ inward (c .dithered i) (λ j. send j i))
+      sum-same (λ i. cond (c .dithered i) (cell k c i) (pos 0)) (λ i. sum (λ j. cond (c .dithered i) (send j i) (pos 0)) size) size
+      (λ i l. ap (λ (x : ℤ). cond (c .dithered i) x (pos 0)) (sym (settled k c s size i (le-of-lt l)) ∙ received-sum k c size i)
+      ∙ inward (c .dithered i) (λ j. send j i))
       ∙ sum-swap (λ i j. cond (c .dithered i) (send j i) (pos 0)) size size
-      ∙ sum-same (λ j. sum (λ i. cond (c .dithered i) (send j i) (pos 0)) size) (λ j. cond (c .dithered j) (sent (isDithered c) k (c .width) (c .height) j (residual k c j)) (pos 0)) size (λ j l. get-all c k (c .width) (c .height) j (residual k c j) ∙ quiet j (c .dithered j) (pos (biasedOf (c .source j) (cell k c j)) -ℤ pos (c .chosen j)))
+      ∙ sum-same (λ j. sum (λ i. cond (c .dithered i) (send j i) (pos 0)) size)
+      (λ j. cond (c .dithered j) (sent (isDithered c) k (c .width) (c .height) j (residual k c j)) (pos 0)) size
+      (λ j l. get-all c k (c .width) (c .height) j (residual k c j) ∙ quiet j (c .dithered j) (pos (biasedOf (c .source j) (cell k c j)) -ℤ pos (c .chosen j)))
     where
       size : ℕ
       size = c .width * c .height
@@ -146,7 +158,9 @@ module _ (k : List Target) (c : Channel) (s : T (later k)) where
       inward true f = refl
       inward false f = sym (sum-zero (λ j. pos 0) size (λ j l. refl))
 
-      quiet : (j : ℕ) (b : Bool) (x : ℤ) → sent (isDithered c) k (c .width) (c .height) j (cond b x (pos 0)) ≡ cond b (sent (isDithered c) k (c .width) (c .height) j (cond b x (pos 0))) (pos 0)
+      quiet : (j : ℕ) (b : Bool) (x : ℤ)
+          → sent (isDithered c) k (c .width) (c .height) j (cond b x (pos 0))
+          ≡ cond b (sent (isDithered c) k (c .width) (c .height) j (cond b x (pos 0))) (pos 0)
       quiet j true x = refl
       quiet j false x = sent-nothing c (isDithered c) k (c .width) (c .height) j
 
@@ -155,58 +169,50 @@ one-pixel : (s : ℕ) (z : ℤ) (v : ℕ) → pos s *ℤ pos 16 +ℤ z ≡ lossO
 unfolding lossOf
 one-pixel s z v =
     sym (-ℤ-+ℤ-cancel (pos (s * 16) +ℤ z) (pos (biasedOf s z * 16)))
-    ∙ ap (λ (x : ℤ). lossOf s z +ℤ x) (ap (λ (x : ℤ). x *ℤ pos 16) (sym (-ℤ-+ℤ-cancel (pos (biasedOf s z)) (pos v))) ∙ add-times (pos (biasedOf s z) -ℤ pos v) (pos v) 16)
+    ∙ ap (λ (x : ℤ). lossOf s z +ℤ x)
+    (ap (λ (x : ℤ). x *ℤ pos 16) (sym (-ℤ-+ℤ-cancel (pos (biasedOf s z)) (pos v))) ∙ add-times (pos (biasedOf s z) -ℤ pos v) (pos v) 16)
 
 -- ---- the account
 balance : (a b d l s o h : ℤ) → a +ℤ d ≡ l +ℤ (((d +ℤ (s +ℤ o)) +ℤ h) +ℤ b) → a -ℤ b ≡ l +ℤ s +ℤ o +ℤ h
 balance a b d l s o h e = ap (λ (x : ℤ). x -ℤ b) (cancel a (l +ℤ s +ℤ o +ℤ h +ℤ b) d (e ∙ simp sums)) ∙ +ℤ-negℤ-cancel (l +ℤ s +ℤ o +ℤ h) b
 
-module _ (k : List Target) (c : Channel) (s : T (later k)) (t : total k ≤ 16) where
-  shared : (r : ℤ) → r *ℤ pos (total k) +ℤ r *ℤ pos (heldBack k) ≡ r *ℤ pos 16
-  unfolding heldBack
-  shared r = sym (times-add r (total k) (16 - total k)) ∙ ap (λ (n : ℕ). r *ℤ pos n) (whole (total k) t)
-    where
-      whole : (n : ℕ) → n ≤ 16 → n + (16 - n) ≡ 16
-      whole n l = omega arith
+module _ (k : List Target) (h : ℕ) (c : Channel) (s : T (later k)) (t : total k + h ≡ 16) where
+  shared : (r : ℤ) → r *ℤ pos (total k) +ℤ r *ℤ pos h ≡ r *ℤ pos 16
+  shared r = sym (times-add r (total k) h) ∙ ap (λ (n : ℕ). r *ℤ pos n) t
 
   pixels : (i : ℕ) → c .dithered i ≡ true → pos (c .source i) *ℤ pos 16 +ℤ cell k c i ≡ loss k c i +ℤ (residual k c i *ℤ pos 16 +ℤ pos (c .chosen i) *ℤ pos 16)
   unfolding loss residual residualOf
   pixels i d = rw d (one-pixel (c .source i) (cell k c i) (c .chosen i))
 
   -- sixteen residuals: what reached dithered pixels, skipped ones, no pixel, and what was held back
-  residuals : overDithered c (λ i. residual k c i *ℤ pos 16) ≡ overDithered c (cell k c) +ℤ (toSkipped k c +ℤ dropped k c) +ℤ held k c
+  residuals : overDithered c (λ i. residual k c i *ℤ pos 16) ≡ overDithered c (cell k c) +ℤ (toSkipped k c +ℤ dropped k c) +ℤ held k h c
   unfolding sentTo toSkipped dropped held
   residuals =
-      over-same c (λ i. residual k c i *ℤ pos 16) (λ i. (to (isDithered c) i +ℤ (to (isSkipped c) i +ℤ to isOutside i)) +ℤ residual k c i *ℤ pos (heldBack k))
-      (λ i l d. sym (shared (residual k c i)) ∙ ap (λ (x : ℤ). x +ℤ residual k c i *ℤ pos (heldBack k)) (sym (all-sent c k (c .width) (c .height) i (residual k c i))))
-      ∙ over-add c (λ i. to (isDithered c) i +ℤ (to (isSkipped c) i +ℤ to isOutside i)) (λ i. residual k c i *ℤ pos (heldBack k))
-      ∙ ap (λ (x : ℤ). x +ℤ held k c)
+      over-same c (λ i. residual k c i *ℤ pos 16) (λ i. (to (isDithered c) i +ℤ (to (isSkipped c) i +ℤ to isOutside i)) +ℤ residual k c i *ℤ pos h)
+      (λ i l d. sym (shared (residual k c i)) ∙ ap (λ (x : ℤ). x +ℤ residual k c i *ℤ pos h) (sym (all-sent c k (c .width) (c .height) i (residual k c i))))
+      ∙ over-add c (λ i. to (isDithered c) i +ℤ (to (isSkipped c) i +ℤ to isOutside i)) (λ i. residual k c i *ℤ pos h)
+      ∙ ap (λ (x : ℤ). x +ℤ held k h c)
       (over-add c (to (isDithered c)) (λ i. to (isSkipped c) i +ℤ to isOutside i)
       ∙ (λ q. sym (cells-are-sends k c s) q +ℤ over-add c (to (isSkipped c)) (to isOutside) q))
     where
       to : (Place → Bool) → ℕ → ℤ
       to test i = sent test k (c .width) (c .height) i (residual k c i)
 
-  pub account : excess c ≡ lost k c +ℤ toSkipped k c +ℤ dropped k c +ℤ held k c
+  pub account : excess c ≡ lost k c +ℤ toSkipped k c +ℤ dropped k c +ℤ held k h c
   unfolding excess sources choices lost
   account =
       *ℤ-comm (pos 16) (sources c -ℤ choices c)
       ∙ sub-times (sources c) (choices c) 16
-      ∙ balance (sources c *ℤ pos 16) (choices c *ℤ pos 16) (overDithered c (cell k c)) (lost k c) (toSkipped k c) (dropped k c) (held k c) both-sides
+      ∙ balance (sources c *ℤ pos 16) (choices c *ℤ pos 16) (overDithered c (cell k c)) (lost k c) (toSkipped k c) (dropped k c) (held k h c) both-sides
     where
-      both-sides : sources c *ℤ pos 16 +ℤ overDithered c (cell k c) ≡ lost k c +ℤ (overDithered c (cell k c) +ℤ (toSkipped k c +ℤ dropped k c) +ℤ held k c +ℤ choices c *ℤ pos 16)
+      both-sides : sources c *ℤ pos 16 +ℤ overDithered c (cell k c)
+          ≡ lost k c +ℤ (overDithered c (cell k c) +ℤ (toSkipped k c +ℤ dropped k c) +ℤ held k h c +ℤ choices c *ℤ pos 16)
       both-sides =
           ap (λ (x : ℤ). x +ℤ overDithered c (cell k c)) (sym (over-times c (λ i. pos (c .source i)) 16))
           ∙ sym (over-add c (λ i. pos (c .source i) *ℤ pos 16) (cell k c))
-          ∙ over-same c (λ i. pos (c .source i) *ℤ pos 16 +ℤ cell k c i) (λ i. loss k c i +ℤ (residual k c i *ℤ pos 16 +ℤ pos (c .chosen i) *ℤ pos 16)) (λ i l d. pixels i d)
+          ∙ over-same c (λ i. pos (c .source i) *ℤ pos 16 +ℤ cell k c i) (λ i. loss k c i +ℤ (residual k c i *ℤ pos 16 +ℤ pos (c .chosen i) *ℤ pos 16))
+          (λ i l d. pixels i d)
           ∙ over-add c (loss k c) (λ i. residual k c i *ℤ pos 16 +ℤ pos (c .chosen i) *ℤ pos 16)
           ∙ ap (λ (x : ℤ). lost k c +ℤ x)
           (over-add c (λ i. residual k c i *ℤ pos 16) (λ i. pos (c .chosen i) *ℤ pos 16)
           ∙ (λ q. residuals q +ℤ over-times c (λ i. pos (c .chosen i)) 16 q))
-
--- a kernel that passes on all sixteen sixteenths holds nothing back
-pub held-none : (k : List Target) (c : Channel) → heldBack k ≡ 0 → held k c ≡ pos 0
-unfolding held overDithered
-held-none k c e =
-    ap (λ (n : ℕ). sum (λ i. cond (c .dithered i) (residual k c i *ℤ pos n) (pos 0)) (c .width * c .height)) e
-    ∙ sum-zero (λ i. cond (c .dithered i) (residual k c i *ℤ pos 0) (pos 0)) (c .width * c .height) (λ i l. nothing (c .dithered i) (residual k c i))

@@ -13,4 +13,3 @@ pub mod Rounding
 pub mod Spots
 pub mod Cells
 pub mod Targets
-pub mod Kernels

@@ -31,7 +31,8 @@ unfolding lossOf biasedOf
 loss-range s z low high = rounded (pos (s * 16) +ℤ z) low high
 
 -- of a pixel
-pub pixel-loss-range : (k : List Target) (c : Channel) (i : ℕ) → pos 0 ≤ℤ (pos (c .source i * 16) +ℤ cell k c i) → (pos (c .source i * 16) +ℤ cell k c i) ≤ℤ pos 4080
+pub pixel-loss-range : (k : List Target) (c : Channel) (i : ℕ) → pos 0 ≤ℤ (pos (c .source i * 16) +ℤ cell k c i)
+    → (pos (c .source i * 16) +ℤ cell k c i) ≤ℤ pos 4080
     → (negsuc 7 ≤ℤ loss k c i) × (loss k c i ≤ℤ pos 7)
 unfolding loss
 pixel-loss-range k c i low high = loss-range (c .source i) (cell k c i) low high

@@ -1,5 +1,5 @@
 -- What a pixel receives, for any kernel: it is the gathered sum over its senders, and its cell is the only function that is; it is settled once
--- the pixel's turn comes; it lies within 4080 sixteenths, also part way through a pixel's sends; later choices do not count. Assumes nothing.
+-- the pixel's turn comes; it lies within 4080 sixteenths; later choices do not count. Assumes nothing.
 use mathlib.Core.Path.{_≡_, refl, sym, ap, _∙_, subst}
 use mathlib.Core.Bool.{Bool, true, false, cond}
 use mathlib.Core.List.{List}
@@ -8,14 +8,13 @@ use native.Mathlib.Nat.{add-zero, add-suc, mul-le-mul-right}
 use native.Mathlib.Omega.{arith}
 use lib.Dec.{T}
 use lib.IntN.{ℤ, pos, natAbs, _+ℤ_, _-ℤ_, _*ℤ_, +ℤ-idr, *ℤ-zero}
-use lib.ListN.{take}
 use Rattle.floats.proofs.Int.{sum-size, product-size, difference-bound}
 use Rattle.patterns.specs.Kernel.{Target, total, later}
 use Rattle.diffusion.specs.Biased.{biasedOf}
 use Rattle.diffusion.specs.Sum.{sum}
 use Rattle.diffusion.specs.Diffusion.{Channel, weightTo, residualOf, received, cell, residual, Alike}
 use Rattle.diffusion.proofs.Sum.{sum-same, sumℕ}
-use Rattle.diffusion.proofs.Weights.{none-back, weights-arrive, weights-part}
+use Rattle.diffusion.proofs.Weights.{none-back, weights-arrive}
 use Rattle.diffusion.proofs.Rounding.{biased-byte}
 
 residual-size : (c : Channel) (i : ℕ) (z : ℤ) → c .chosen i ≤ 255 → natAbs (residualOf c i z) ≤ 255
@@ -51,7 +50,8 @@ module _ (k : List Target) (c : Channel) where
       before zero i l = absurd (omega arith)
       before (suc n) i l =
           F i
-          ∙ sum-same (λ j. residualOf c j (f j) *ℤ pos (to j i)) (λ j. residual k c j *ℤ pos (to j i)) i (λ j m. ap (λ (z : ℤ). residualOf c j z *ℤ pos (to j i)) (before n j (omega arith)))
+          ∙ sum-same (λ j. residualOf c j (f j) *ℤ pos (to j i)) (λ j. residual k c j *ℤ pos (to j i)) i
+          (λ j m. ap (λ (z : ℤ). residualOf c j z *ℤ pos (to j i)) (before n j (omega arith)))
           ∙ sym (cell-sum i)
 
   -- ---- nothing comes after the pixel's turn: the cell that a pixel reads is its final one
@@ -85,20 +85,6 @@ module _ (k : List Target) (c : Channel) where
 
     pub bound : (n i : ℕ) → natAbs (received k c n i) ≤ 4080
     bound n i = omega (arith, by-weights n i, weights-arrive (c .width) (c .height) i k n)
-
-    -- part way: after the first n senders, and the first m sends of the next one
-    pub part-way : (n m i : ℕ) → natAbs (received k c n i +ℤ residual k c n *ℤ pos (weightTo (take m k) (c .width) (c .height) n i)) ≤ 4080
-    unfolding sumℕ
-    part-way n m i =
-        let part = weightTo (take m k) (c .width) (c .height) n i in
-        omega (
-          arith,
-          sum-size (received k c n i) (residual k c n *ℤ pos part),
-          by-weights n i,
-          send-size n part,
-          weights-part (c .width) (c .height) i k m n,
-          weights-arrive (c .width) (c .height) i k (suc n),
-        )
 
 -- ---- only what stands before a pixel counts, and of skipped pixels not the choice
 module _ (c c′ : Channel) where

@@ -1,5 +1,5 @@
 -- Scattering pixel by pixel from zeros gives the gathered sums, for any kernel: after n pixels the buffer holds what each pixel received from
--- them, and nothing else does; every cell of it is small, also between the sends of a pixel; at the end it holds the cells of the picture. Assumes nothing.
+-- them, and nothing else does; every cell of it is small; at the end it holds the cells of the picture. Assumes nothing.
 use mathlib.Core.Path.{_≡_, refl, sym, ap, _∙_, subst}
 use mathlib.Core.Bool.{Bool, true, false, cond, _&&_}
 use mathlib.Core.List.{List, [], _∷_, map}
@@ -9,23 +9,24 @@ use native.Mathlib.Omega.{arith}
 use borrow.Author.Tests.{eq-eqb, ne-eqb, eqb-true, eqb-false}
 use lib.Dec.{T, eqb, lit<}
 use lib.IntN.{ℤ, pos, natAbs, _+ℤ_, _*ℤ_, +ℤ-idr, +ℤ-assoc, *ℤ-zero, zero-*ℤ}
-use lib.ListN.{length, getD, set, take, replicate, length-set, length-replicate, getD-replicate, length-map, List·getD-map}
+use lib.ListN.{length, getD, set, replicate, length-set, length-replicate, getD-replicate, length-map, List·getD-map}
 use lib.Seq.{getD-set-same, getD-set-other, set-getD, ext-getD}
 use Rattle.lists.proofs.GatherLaws.{gather-only}
 use Rattle.floats.specs.Over.{sixteenths}
 use Rattle.floats.proofs.Int.{times-add}
 use Rattle.patterns.specs.Kernel.{Target, Place, pixel, outside, landing, total, later}
-use Rattle.diffusion.specs.Diffusion.{Picture, channel, isAt, weightTo, residualOf, received, cell, residual}
+use Rattle.diffusion.specs.Diffusion.{Picture, channel, isAt, weightTo, residualOf, received, cell}
 use Rattle.diffusion.specs.Scatter.{more, send, sends, leftOver, scatter, Holds, cellsAt, cellBuffer}
 use Rattle.diffusion.proofs.Channels.{by-channel, by-pixel}
-use Rattle.diffusion.proofs.Received.{settled, bound, part-way}
+use Rattle.diffusion.proofs.Received.{settled, bound}
 
 -- ---- one cell
 pub more-length : (cells : List ℤ) (at : ℕ) (z : ℤ) → length (more cells at z) ≡ length cells
 unfolding more
 more-length cells at z = length-set cells at (getD cells at (pos 0) +ℤ z)
 
-pub more-at : (cells : List ℤ) (at : ℕ) (z : ℤ) (i : ℕ) → i < length cells → getD (more cells at z) i (pos 0) ≡ getD cells i (pos 0) +ℤ cond (eqb at i) z (pos 0)
+pub more-at : (cells : List ℤ) (at : ℕ) (z : ℤ) (i : ℕ) → i < length cells
+    → getD (more cells at z) i (pos 0) ≡ getD cells i (pos 0) +ℤ cond (eqb at i) z (pos 0)
 unfolding more
 more-at cells at z i h = go (eqb at i) refl
   where
@@ -61,16 +62,20 @@ send-length cells r (pixel m) w = simp more-length
 send-length cells r outside w = refl
 
 three-at : (cells : List ℤ) (p₀ p₁ p₂ : ℕ) (z₀ z₁ z₂ : ℤ) (q : ℕ) → q < length cells
-    → getD (more (more (more cells p₀ z₀) p₁ z₁) p₂ z₂) q (pos 0) ≡ getD cells q (pos 0) +ℤ cond (eqb p₀ q) z₀ (pos 0) +ℤ cond (eqb p₁ q) z₁ (pos 0) +ℤ cond (eqb p₂ q) z₂ (pos 0)
+    → getD (more (more (more cells p₀ z₀) p₁ z₁) p₂ z₂) q (pos 0)
+    ≡ getD cells q (pos 0) +ℤ cond (eqb p₀ q) z₀ (pos 0) +ℤ cond (eqb p₁ q) z₁ (pos 0) +ℤ cond (eqb p₂ q) z₂ (pos 0)
 three-at cells p₀ p₁ p₂ z₀ z₁ z₂ q h =
     more-at (more (more cells p₀ z₀) p₁ z₁) p₂ z₂ q (simp more-length h)
     ∙ ap (λ (x : ℤ). x +ℤ cond (eqb p₂ q) z₂ (pos 0))
     (more-at (more cells p₀ z₀) p₁ z₁ q (simp more-length h) ∙ ap (λ (x : ℤ). x +ℤ cond (eqb p₁ q) z₁ (pos 0)) (more-at cells p₀ z₀ q h))
 
 one-channel : (r : ℕ → ℤ) (w : ℕ) (s : Bool) (a : ℕ) → a < 3 → (v : ℤ)
-    → v +ℤ cond (s && eqb 0 a) (r 0 *ℤ pos w) (pos 0) +ℤ cond (s && eqb 1 a) (r 1 *ℤ pos w) (pos 0) +ℤ cond (s && eqb 2 a) (r 2 *ℤ pos w) (pos 0) ≡ v +ℤ r a *ℤ pos (cond s w 0)
+    → v +ℤ cond (s && eqb 0 a) (r 0 *ℤ pos w) (pos 0) +ℤ cond (s && eqb 1 a) (r 1 *ℤ pos w) (pos 0) +ℤ cond (s && eqb 2 a) (r 2 *ℤ pos w) (pos 0)
+    ≡ v +ℤ r a *ℤ pos (cond s w 0)
 one-channel r w true a A v =
-    by-channel (λ a. v +ℤ cond (eqb 0 a) (r 0 *ℤ pos w) (pos 0) +ℤ cond (eqb 1 a) (r 1 *ℤ pos w) (pos 0) +ℤ cond (eqb 2 a) (r 2 *ℤ pos w) (pos 0) ≡ v +ℤ r a *ℤ pos w)
+    by-channel
+    (λ a. v +ℤ cond (eqb 0 a) (r 0 *ℤ pos w) (pos 0) +ℤ cond (eqb 1 a) (r 1 *ℤ pos w) (pos 0) +ℤ cond (eqb 2 a) (r 2 *ℤ pos w) (pos 0)
+    ≡ v +ℤ r a *ℤ pos w)
     (simp +ℤ-idr)
     (simp +ℤ-idr)
     (simp +ℤ-idr)
@@ -105,13 +110,15 @@ module _ (r : ℕ → ℤ) (w h j : ℕ) where
   sends-at [] cells a i A l = sym (ap (λ (x : ℤ). getD cells (3 * i + a) (pos 0) +ℤ x) (*ℤ-zero (r a)) ∙ +ℤ-idr (getD cells (3 * i + a) (pos 0)))
   sends-at (t ∷ k) cells a i A l =
       let v : ℕ = cond (isAt i (landing w h j t)) (t .weight) 0 in
-      sends-at k (send cells r (landing w h j t) (t .weight)) a i A (subst (λ (n : ℕ). 3 * i + a < n) (sym (send-length cells r (landing w h j t) (t .weight))) l)
+      sends-at k (send cells r (landing w h j t) (t .weight)) a i A
+      (subst (λ (n : ℕ). 3 * i + a < n) (sym (send-length cells r (landing w h j t) (t .weight))) l)
       ∙ ap (λ (x : ℤ). x +ℤ r a *ℤ pos (weightTo k w h j i)) (send-at cells r (landing w h j t) (t .weight) a i A l)
       ∙ +ℤ-assoc (getD cells (3 * i + a) (pos 0)) (r a *ℤ pos v) (r a *ℤ pos (weightTo k w h j i))
       ∙ ap (λ (x : ℤ). getD cells (3 * i + a) (pos 0) +ℤ x) (sym (times-add (r a) v (weightTo k w h j i)))
 
 -- the residuals of three channels count
-pub sends-same : (r r′ : ℕ → ℤ) (w h j : ℕ) → ((a : ℕ) → a < 3 → r a ≡ r′ a) → (k : List Target) (cells : List ℤ) → sends cells r k w h j ≡ sends cells r′ k w h j
+pub sends-same : (r r′ : ℕ → ℤ) (w h j : ℕ) → ((a : ℕ) → a < 3 → r a ≡ r′ a) → (k : List Target) (cells : List ℤ)
+    → sends cells r k w h j ≡ sends cells r′ k w h j
 unfolding sends send
 sends-same r r′ w h j e [] cells = refl
 sends-same r r′ w h j e (t ∷ k) cells =
@@ -119,13 +126,15 @@ sends-same r r′ w h j e (t ∷ k) cells =
   where
     one : (p : Place) → send cells r p (t .weight) ≡ send cells r′ p (t .weight)
     one (pixel i) =
-        λ q. more (more (more cells (3 * i) (e 0 (lit< tt) q *ℤ pos (t .weight))) (3 * i + 1) (e 1 (lit< tt) q *ℤ pos (t .weight))) (3 * i + 2) (e 2 (lit< tt) q *ℤ pos (t .weight))
+        λ q. more (more (more cells (3 * i) (e 0 (lit< tt) q *ℤ pos (t .weight))) (3 * i + 1) (e 1 (lit< tt) q *ℤ pos (t .weight))) (3 * i + 2)
+        (e 2 (lit< tt) q *ℤ pos (t .weight))
     one outside = refl
 
 -- residuals of 0 change nothing
 more-none : (cells : List ℤ) (at w : ℕ) → more cells at (pos 0 *ℤ pos w) ≡ cells
 unfolding more
-more-none cells at w = ap (λ (z : ℤ). set cells at (getD cells at (pos 0) +ℤ z)) (zero-*ℤ (pos w)) ∙ ap (set cells at) (+ℤ-idr (getD cells at (pos 0))) ∙ set-getD cells at (pos 0)
+more-none cells at w =
+    ap (λ (z : ℤ). set cells at (getD cells at (pos 0) +ℤ z)) (zero-*ℤ (pos w)) ∙ ap (set cells at) (+ℤ-idr (getD cells at (pos 0))) ∙ set-getD cells at (pos 0)
 
 pub sends-none : (w h j : ℕ) (k : List Target) (cells : List ℤ) → sends cells (λ a. pos 0) k w h j ≡ cells
 unfolding sends send
@@ -148,7 +157,8 @@ module _ (k : List Target) (p : Picture) where
     each = λ a i A l. getD-replicate (3 * (p .width * p .height)) (3 * i + a) (pos 0) (pos 0) (omega arith);
   }
 
-  holds-more : (n : ℕ) (cells : List ℤ) → n < p .width * p .height → Holds k p n cells → Holds k p (suc n) (sends cells (leftOver p n cells) k (p .width) (p .height) n)
+  holds-more : (n : ℕ) (cells : List ℤ) → n < p .width * p .height → Holds k p n cells
+      → Holds k p (suc n) (sends cells (leftOver p n cells) k (p .width) (p .height) n)
   unfolding received
   holds-more n cells l h = record {
     size = sends-length (leftOver p n cells) (p .width) (p .height) n k cells ∙ h .size;
@@ -167,30 +177,17 @@ module _ (k : List Target) (p : Picture) where
   pub holds-only : (n : ℕ) (cells cells′ : List ℤ) → Holds k p n cells → Holds k p n cells′ → cells ≡ cells′
   holds-only n cells cells′ h h′ =
       ext-getD (pos 0) cells cells′ (h .size ∙ sym (h′ .size))
-      (λ q l. by-pixel (λ q. getD cells q (pos 0) ≡ getD cells′ q (pos 0)) (p .width * p .height) (λ a i A m. h .each a i A m ∙ sym (h′ .each a i A m)) q (subst (λ (m : ℕ). q < m) (h .size) l))
+      (λ q l. by-pixel (λ q. getD cells q (pos 0) ≡ getD cells′ q (pos 0)) (p .width * p .height) (λ a i A m. h .each a i A m ∙ sym (h′ .each a i A m)) q
+      (subst (λ (m : ℕ). q < m) (h .size) l))
 
   -- every cell of such a buffer lies within 4080 sixteenths
-  pub holds-small : total k ≤ 16 → ((a j : ℕ) → a < 3 → p .chosen a j ≤ 255) → (n : ℕ) (cells : List ℤ) → Holds k p n cells → (q : ℕ) → q < length cells → natAbs (getD cells q (pos 0)) ≤ 4080
+  pub holds-small : total k ≤ 16 → ((a j : ℕ) → a < 3 → p .chosen a j ≤ 255) → (n : ℕ) (cells : List ℤ) → Holds k p n cells → (q : ℕ) → q < length cells
+      → natAbs (getD cells q (pos 0)) ≤ 4080
   holds-small t bytes n cells h q l =
       by-pixel (λ q. natAbs (getD cells q (pos 0)) ≤ 4080) (p .width * p .height)
       (λ a i A m. subst (λ (z : ℤ). natAbs z ≤ 4080) (sym (h .each a i A m)) (bound k (channel p a) (λ j. bytes a j A) t n i))
       q
       (subst (λ (m : ℕ). q < m) (h .size) l)
-
-  -- and so does every cell between the sends of the pixel n, after the first m of them
-  pub scatter-part-way : total k ≤ 16 → ((a j : ℕ) → a < 3 → p .chosen a j ≤ 255) → (n m : ℕ) → n < p .width * p .height → (q : ℕ) → q < 3 * (p .width * p .height)
-      → natAbs (getD (sends (scatter k p n) (leftOver p n (scatter k p n)) (take m k) (p .width) (p .height) n) q (pos 0)) ≤ 4080
-  unfolding residual cell
-  scatter-part-way t bytes n m l =
-      let cells : List ℤ = scatter k p n in
-      let h : Holds k p n cells = scattered n (le-of-lt l) in
-      by-pixel (λ q. natAbs (getD (sends cells (leftOver p n cells) (take m k) (p .width) (p .height) n) q (pos 0)) ≤ 4080) (p .width * p .height)
-      (λ a i A I.
-      subst (λ (z : ℤ). natAbs z ≤ 4080)
-      (sym
-      (sends-at (leftOver p n cells) (p .width) (p .height) n (take m k) cells a i A (in-buffer a i (p .width * p .height) cells (h .size) A I)
-      ∙ (λ q. h .each a i A I q +ℤ residualOf (channel p a) n (h .each a n A l q) *ℤ pos (weightTo (take m k) (p .width) (p .height) n i))))
-      (part-way k (channel p a) (λ j. bytes a j A) t n m i))
 
   -- ---- at the end: pixel by pixel, the cells of the picture
   three : (f : ℕ → ℤ) (a : ℕ) → a < 3 → getD (sixteenths (f 0) ∷ sixteenths (f 1) ∷ sixteenths (f 2) ∷ []) a (sixteenths (pos 0)) ≡ sixteenths (f a)

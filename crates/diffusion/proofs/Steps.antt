@@ -5,7 +5,7 @@ use mathlib.Core.Path.{_≡_, refl, sym, ap, _∙_}
 use mathlib.Core.Bool.{true, false, cond}
 use mathlib.Core.List.{List, map}
 use Prim.Native.Nat.{ℕ, _+_, _*_, _≤_, _<_}
-use native.Mathlib.Nat.{add-zero, le-of-lt}
+use native.Mathlib.Nat.{add-zero, le-refl, le-of-lt}
 use native.Mathlib.Numerals.{add-one}
 use lib.Dec.{T}
 use lib.IntN.{ℤ, pos, _-ℤ_}
@@ -24,7 +24,8 @@ use Rattle.diffusion.proofs.Channels.{by-channel}
 use Rattle.diffusion.proofs.Scatter.{sends-same, sends-none, scattered, holds-small, drawn}
 
 -- the byte of a biased colour
-pub biased-in : (color : NormalizedColor) (cells : List ℤ) (i a : ℕ) → a < 3 → byteIn a (biasedColor color cells i .0) ≡ biasedOf (byteIn a (color .0)) (getD cells (3 * i + a) (pos 0))
+pub biased-in : (color : NormalizedColor) (cells : List ℤ) (i a : ℕ) → a < 3
+    → byteIn a (biasedColor color cells i .0) ≡ biasedOf (byteIn a (color .0)) (getD cells (3 * i + a) (pos 0))
 biased-in color cells i =
     by-channel (λ a. byteIn a (biasedColor color cells i .0) ≡ biasedOf (byteIn a (color .0)) (getD cells (3 * i + a) (pos 0)))
     (ap (λ (m : ℕ). biasedOf (color .0 .r) (getD cells m (pos 0))) (sym (add-zero (3 * i))))
@@ -33,7 +34,8 @@ biased-in color cells i =
 
 module _ (k : List Target) (p : Picture) where
   -- zeroed cells are the buffer before the first pixel
-  pub step-begin : (m : ℕ) (cells : List Float) → m ≡ 3 * (p .width * p .height) → cells ≡ replicate m (ofBits binary32 0) → cells ≡ map sixteenths (scatter k p 0)
+  pub step-begin : (m : ℕ) (cells : List Float) → m ≡ 3 * (p .width * p .height) → cells ≡ replicate m (ofBits binary32 0)
+      → cells ≡ map sixteenths (scatter k p 0)
   unfolding scatter
   step-begin m cells e z = z ∙ ap (λ (m : ℕ). replicate m (ofBits binary32 0)) e ∙ cells-zero (3 * (p .width * p .height))
 
@@ -71,7 +73,8 @@ module _ (k : List Target) (p : Picture) where
   -- a dithered pixel, by its colours: what `diffuse_residual` leaves, with the biased colour that the buffer gave and the chosen one
   pub step-dithered : (n x y : ℕ) (color chosen : NormalizedColor) (cells : List Float) → y * p .width + x ≡ n → p .dithered n ≡ true
       → ((a : ℕ) → a < 3 → p .source a n ≡ byteIn a (color .0)) → ((a : ℕ) → a < 3 → p .chosen a n ≡ byteIn a (chosen .0))
-      → cells ≡ map sixteenths (sends (scatter k p n) (residualsOf (biasedColor color (scatter k p n) n .0) (chosen .0)) k (p .width) (p .height) (y * p .width + x))
+      → cells ≡ map sixteenths (sends (scatter k p n) (residualsOf (biasedColor color (scatter k p n) n .0) (chosen .0)) k (p .width) (p .height)
+      (y * p .width + x))
       → cells ≡ map sixteenths (scatter k p (n + 1))
   unfolding residualOf
   step-dithered n x y color chosen cells at d S C is =
@@ -90,3 +93,8 @@ module _ (k : List Target) (p : Picture) where
   -- after the last pixel the buffer holds the picture's cells
   pub step-end : T (later k) → (cells : List Float) → cells ≡ map sixteenths (scatter k p (p .width * p .height)) → cells ≡ cellBuffer k p
   step-end s cells is = is ∙ drawn k p s
+
+  -- and so the picture's cells are sixteenths within 255 either way
+  pub buffer-cells : T (later k) → total k ≤ 16 → ((a j : ℕ) → a < 3 → p .chosen a j ≤ 255) → (cells : List Float) → cells ≡ cellBuffer k p
+      → Cells 4080 cells (scatter k p (p .width * p .height))
+  buffer-cells s t bytes cells is = step-cells (p .width * p .height) (le-refl (p .width * p .height)) cells (is ∙ sym (drawn k p s)) t bytes

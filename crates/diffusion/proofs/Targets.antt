@@ -51,7 +51,8 @@ weight-at [] m h = absurd (not-suc-le-zero h)
 weight-at (t ∷ k) zero h = omega arith
 weight-at (t ∷ k) (suc m) h = omega (arith, weight-at k m (le-of-suc-le-suc h))
 
-sends-last : (rs : ℕ → ℤ) (w h j : ℕ) (k : List Target) (t : Target) (zs : List ℤ) → sends zs rs (k ++ (t ∷ [])) w h j ≡ send (sends zs rs k w h j) rs (landing w h j t) (t .weight)
+sends-last : (rs : ℕ → ℤ) (w h j : ℕ) (k : List Target) (t : Target) (zs : List ℤ)
+    → sends zs rs (k ++ (t ∷ [])) w h j ≡ send (sends zs rs k w h j) rs (landing w h j t) (t .weight)
 unfolding sends
 sends-last rs w h j [] t zs = refl
 sends-last rs w h j (u ∷ k) t zs = sends-last rs w h j k t (send zs rs (landing w h j u) (u .weight))
@@ -98,7 +99,8 @@ module _ (m : ℕ) (k : List Target) (dx : List ℤ) (dy : List ℕ) (ratio : Li
 
   -- the sends of one target more
   pub next : (w h x y : ℕ) (zs : List ℤ) (rs : ℕ → ℤ) → x < w
-      → send (sends zs rs (take m k) w h (y * w + x)) rs (place w h (pos x +ℤ getD dx m (pos 0)) (y + getD dy m 0)) (getD k m none .weight) ≡ sends zs rs (take (m + 1) k) w h (y * w + x)
+      → send (sends zs rs (take m k) w h (y * w + x)) rs (place w h (pos x +ℤ getD dx m (pos 0)) (y + getD dy m 0)) (getD k m none .weight)
+      ≡ sends zs rs (take (m + 1) k) w h (y * w + x)
   next w h x y zs rs X =
       (λ q. send (sends zs rs (take m k) w h (y * w + x)) rs (place w h (pos x +ℤ column-at q) (y + row-at q)) (getD k m none .weight))
       ∙ ap (λ (p : Place). send (sends zs rs (take m k) w h (y * w + x)) rs p (getD k m none .weight)) (sym (landing-at w h x y (getD k m none) X))
@@ -109,10 +111,12 @@ module _ (m : ℕ) (k : List Target) (dx : List ℤ) (dy : List ℕ) (ratio : Li
 pub residuals-small : (rs : ℕ → ℤ) (r g b : Float) → Residuals rs r g b → (a : ℕ) → a < 3 → natAbs (rs a) ≤ 255
 residuals-small rs r g b R = by-channel (λ a. natAbs (rs a) ≤ 255) (R .red .small) (R .green .small) (R .blue .small)
 
-pub sends-small : (zs : List ℤ) (rs : ℕ → ℤ) (k : List Target) (w h j m n : ℕ) → length zs ≡ 3 * n → ((i : ℕ) → i < length zs → natAbs (getD zs i (pos 0)) ≤ 4080) → ((a : ℕ) → a < 3 → natAbs (rs a) ≤ 255) → total k ≤ 16
+pub sends-small : (zs : List ℤ) (rs : ℕ → ℤ) (k : List Target) (w h j m n : ℕ) → length zs ≡ 3 * n
+    → ((i : ℕ) → i < length zs → natAbs (getD zs i (pos 0)) ≤ 4080) → ((a : ℕ) → a < 3 → natAbs (rs a) ≤ 255) → total k ≤ 16
     → (q : ℕ) → q < length (sends zs rs (take m k) w h j) → natAbs (getD (sends zs rs (take m k) w h j) q (pos 0)) ≤ 8160
 sends-small zs rs k w h j m n e s R t q l =
-    by-pixel (λ q. natAbs (getD (sends zs rs (take m k) w h j) q (pos 0)) ≤ 8160) n here q (subst (λ (x : ℕ). q < x) (sends-length rs w h j (take m k) zs ∙ e) l)
+    by-pixel (λ q. natAbs (getD (sends zs rs (take m k) w h j) q (pos 0)) ≤ 8160) n here q
+    (subst (λ (x : ℕ). q < x) (sends-length rs w h j (take m k) zs ∙ e) l)
   where
     here : (a i : ℕ) → a < 3 → i < n → natAbs (getD (sends zs rs (take m k) w h j) (3 * i + a) (pos 0)) ≤ 8160
     here a i A I =

@@ -19,7 +19,8 @@ biased-same k c c′ i e s = λ q. biasedOf (e q) (cell-same c c′ k i s q)
 module _ {X : Type 0} (rule : ℕ → ℕ → ℕ → ℕ → X) (k : List Target) where
   -- the rule's answer at a pixel before which two pictures are the same
   rule-same : (p p′ : Picture) (i : ℕ) → ((a : ℕ) → a < 3 → p .source a i ≡ p′ .source a i) → ((a : ℕ) → a < 3 → Alike (channel p a) (channel p′ a) i)
-      → rule i (biased k (channel p 0) i) (biased k (channel p 1) i) (biased k (channel p 2) i) ≡ rule i (biased k (channel p′ 0) i) (biased k (channel p′ 1) i) (biased k (channel p′ 2) i)
+      → rule i (biased k (channel p 0) i) (biased k (channel p 1) i) (biased k (channel p 2) i)
+      ≡ rule i (biased k (channel p′ 0) i) (biased k (channel p′ 1) i) (biased k (channel p′ 2) i)
   rule-same p p′ i S s = λ q. rule i (at 0 (lit< tt) q) (at 1 (lit< tt) q) (at 2 (lit< tt) q)
     where
       at : (a : ℕ) → a < 3 → biased k (channel p a) i ≡ biased k (channel p′ a) i

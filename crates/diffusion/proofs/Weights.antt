@@ -54,7 +54,9 @@ module _ (w h i : ℕ) where
     where
       there : isAt i (landing w h n t) ≡ true → sumℕ (part t) n + part t n ≤ t .weight
       there e =
-          let before = sumℕ-zero (part t) n (λ j l. part-not t j (λ q. lt-irrefl j (subst (λ (m : ℕ). j < m) (landing-once w h n j t i (is-at i (landing w h n t) e) q) l))) in
+          let before =
+          sumℕ-zero (part t) n (λ j l. part-not t j
+          (λ q. lt-irrefl j (subst (λ (m : ℕ). j < m) (landing-once w h n j t i (is-at i (landing w h n t) e) q) l))) in
           omega (arith, before, part-there t n e)
 
   pub weights-arrive : (k : List Target) (n : ℕ) → sumℕ (λ j. weightTo k w h j i) n ≤ total k

@@ -7,7 +7,7 @@ use Prim.Native.Nat.{ℕ, _*_}
 use mathlib.Core.Bool.{Bool, true, false, cond, not}
 use mathlib.Core.List.{List, [], _∷_}
 use lib.IntN.{ℤ, pos, _+ℤ_, _-ℤ_, _*ℤ_}
-use Rattle.patterns.specs.Kernel.{Target, Place, pixel, outside, landing, heldBack}
+use Rattle.patterns.specs.Kernel.{Target, Place, pixel, outside, landing}
 use Rattle.diffusion.specs.Sum.{sum}
 use Rattle.diffusion.specs.Diffusion.{Channel, residual, loss}
 
@@ -55,6 +55,6 @@ toSkipped k c = sentTo (isSkipped c) k c
 unfoldable pub dropped : List Target → Channel → ℤ
 dropped k c = sentTo isOutside k c
 
--- what the kernel held back
-unfoldable pub held : List Target → Channel → ℤ
-held k c = overDithered c (λ i. residual k c i *ℤ pos (heldBack k))
+-- what was held back: h sixteenths of each residual
+unfoldable pub held : List Target → ℕ → Channel → ℤ
+held k h c = overDithered c (λ i. residual k c i *ℤ pos h)

@@ -25,5 +25,9 @@ biasedOf s z = clip (halves (pos (s * 16) +ℤ z))
 -- the biased colour of the pixel i, whose three cells stand at 3 * i, 3 * i + 1 and 3 * i + 2; alpha is kept
 abbrev pub biasedColor : NormalizedColor → List ℤ → ℕ → NormalizedColor
 biasedColor c cells i = record {
-  0 = rgba (biasedOf (c .0 .r) (getD cells (3 * i) (pos 0))) (biasedOf (c .0 .g) (getD cells (3 * i + 1) (pos 0))) (biasedOf (c .0 .b) (getD cells (3 * i + 2) (pos 0))) (c .0 .a);
+  0 =
+      rgba (biasedOf (c .0 .r) (getD cells (3 * i) (pos 0)))
+      (biasedOf (c .0 .g) (getD cells (3 * i + 1) (pos 0)))
+      (biasedOf (c .0 .b) (getD cells (3 * i + 2) (pos 0)))
+      (c .0 .a);
 }

@@ -1,19 +1,22 @@
 // Error diffusion for one pixel: the biased colour, the residual, and the sends into a lent buffer of cells, three f32 a
-// pixel. Names and order are those of `Ditherer` in src/dither.rs.
+// pixel. `clamp_u8` and `diffuse` are named as in src/dither.rs, where the rest is the body of `Ditherer`'s
+// `diffusion_color_at`. There `clamp_u8` takes a float and `diffuse` has the cells and the size in the `Ditherer`; here
+// `clamp_u8` takes whole sixteenths, and cells and size are lent.
 ghost use mathlib.Core.Path.{_≡_};
 ghost use mathlib.Core.List.{List, map};
 ghost use Prim.Native.Nat.{ℕ, _+_, _*_, _<_, _≤_};
-ghost use lib.Dec.{T};
 ghost use lib.IntN.{ℤ, pos, natAbs, _+ℤ_, _-ℤ_, _*ℤ_};
 ghost use lib.ListN.{length, getD};
 ghost use Rattle.floats.specs.Over.{sixteenths};
 ghost use Rattle.floats.specs.Cells.{Cell, Cells};
-ghost use Rattle.patterns.specs.Kernel.{Target, Arrays, place, pixel};
-ghost use Rattle.patterns.specs.Kinds.{isDiffusion, kernelOf};
+ghost use Rattle.patterns.specs.Kernel.{Target, Arrays, atkinson, floydSteinberg, place, pixel};
+ghost use Rattle.patterns.specs.Kinds.{kernelOf};
 ghost use Rattle.diffusion.specs.Biased.{halves, clip, biasedOf, biasedColor};
 ghost use Rattle.diffusion.specs.Scatter.{more, send, sends};
-ghost use Rattle.diffusion.specs.Sends.{placeOf, Spot, residualsOf, Residual, Residuals};
+ghost use Rattle.diffusion.specs.Sends.{placeOf, Spot, residualsOf, Residual, Residuals, PassedOn};
 use color::NormalizedColor;
+use patterns::Dither;
+use patterns::Kind;
 
 // ---- the biased colour
 
@@ -71,7 +74,7 @@ pub fn biased_color(cells: &[f32], i: usize, color: NormalizedColor) -> Normaliz
 }
 
 // What is left of a biased byte where another byte is chosen.
-pub fn residual(biased: u8, chosen: u8) -> f32
+fn residual(biased: u8, chosen: u8) -> f32
     ensures { λ r. ⌜ Residual (pos biased -ℤ pos chosen) r ⌝ }
 {
     biased as f32 - chosen as f32
@@ -80,7 +83,7 @@ pub fn residual(biased: u8, chosen: u8) -> f32
 // ---- sends
 
 // Where a send arrives.
-pub enum Landing {
+enum Landing {
     Pixel(usize),
     Outside,
 }
@@ -153,7 +156,7 @@ fn send_target(
 
 // The sends of the pixel in column x and row y, by the kernel whose targets the three arrays hold. No public call: the
 // caller sees to the pixel, the buffer's length and the kernel.
-pub fn diffuse(
+fn diffuse(
     cells: &mut [f32],
     width: u32,
     height: u32,
@@ -167,8 +170,8 @@ pub fn diffuse(
     ratio: &[f32],
 )
     requires { ⌜ Spot width height x y × (length (now cells) ≡ 3 * (width * height)) × ((k : List Target) × Arrays k (now dx) (now dy) (now ratio)) ⌝ }
-    ensures { λ _. ⌜ ((k : List Target) (zs : List ℤ) (rs : ℕ → ℤ) → Arrays k (now (dx .entry)) (now (dy .entry)) (now (ratio .entry))
-        → Cells 4080 (now (cells .entry)) zs → Residuals rs r g b → now (cells .exit) ≡ map sixteenths (sends zs rs k width height (y * width + x))) ⌝ }
+    ensures { λ _. ⌜ ((k : List Target) → Arrays k (now (dx .entry)) (now (dy .entry)) (now (ratio .entry))
+        → PassedOn k width height (y * width + x) r g b (now (cells .entry)) (now (cells .exit))) ⌝ }
 {
     let mut m: usize = 0;
     while m < dx.len() {
@@ -177,9 +180,51 @@ pub fn diffuse(
     }
 }
 
-// The same by the kernel of a kind: 9 is Atkinson, 10 Floyd-Steinberg. No public call: the caller sees to the kind, the
-// pixel and the buffer's length.
-pub fn diffuse_kind(
+// The same by Atkinson's kernel. No public call: the caller sees to the pixel and the buffer's length.
+fn diffuse_atkinson(
+    cells: &mut [f32],
+    width: u32,
+    height: u32,
+    x: u32,
+    y: u32,
+    r: f32,
+    g: f32,
+    b: f32,
+)
+    requires { ⌜ Spot width height x y × (length (now cells) ≡ 3 * (width * height)) ⌝ }
+    ensures { λ _. ⌜ PassedOn atkinson width height (y * width + x) r g b (now (cells .entry)) (now (cells .exit)) ⌝ }
+{
+    let kernel = patterns::atkinson_kernel();
+    let dx = kernel.dx;
+    let dy = kernel.dy;
+    let ratio = kernel.ratio;
+    diffuse(cells, width, height, x, y, r, g, b, &dx, &dy, &ratio);
+}
+
+// The same by Floyd-Steinberg's. No public call: the caller sees to the pixel and the buffer's length.
+fn diffuse_floyd_steinberg(
+    cells: &mut [f32],
+    width: u32,
+    height: u32,
+    x: u32,
+    y: u32,
+    r: f32,
+    g: f32,
+    b: f32,
+)
+    requires { ⌜ Spot width height x y × (length (now cells) ≡ 3 * (width * height)) ⌝ }
+    ensures { λ _. ⌜ PassedOn floydSteinberg width height (y * width + x) r g b (now (cells .entry)) (now (cells .exit)) ⌝ }
+{
+    let kernel = patterns::floyd_steinberg_kernel();
+    let dx = kernel.dx;
+    let dy = kernel.dy;
+    let ratio = kernel.ratio;
+    diffuse(cells, width, height, x, y, r, g, b, &dx, &dy, &ratio);
+}
+
+// The same by the kernel of a kind; a kind that has none sends nothing. No public call: the caller sees to the pixel and
+// the buffer's length.
+fn diffuse_kind(
     kind: u32,
     cells: &mut [f32],
     width: u32,
@@ -190,27 +235,25 @@ pub fn diffuse_kind(
     g: f32,
     b: f32,
 )
-    requires { ⌜ T (isDiffusion kind) × Spot width height x y × (length (now cells) ≡ 3 * (width * height)) ⌝ }
-    ensures { λ _. ⌜ ((zs : List ℤ) (rs : ℕ → ℤ) → Cells 4080 (now (cells .entry)) zs → Residuals rs r g b
-        → now (cells .exit) ≡ map sixteenths (sends zs rs (kernelOf kind) width height (y * width + x))) ⌝ }
+    requires { ⌜ Spot width height x y × (length (now cells) ≡ 3 * (width * height)) ⌝ }
+    ensures { λ _. ⌜ PassedOn (kernelOf kind) width height (y * width + x) r g b (now (cells .entry)) (now (cells .exit)) ⌝ }
 {
-    if kind == 9 {
-        let kernel = patterns::atkinson_kernel();
-        let dx = kernel.dx;
-        let dy = kernel.dy;
-        let ratio = kernel.ratio;
-        diffuse(cells, width, height, x, y, r, g, b, &dx, &dy, &ratio);
-    } else {
-        let kernel = patterns::floyd_steinberg_kernel();
-        let dx = kernel.dx;
-        let dy = kernel.dy;
-        let ratio = kernel.ratio;
-        diffuse(cells, width, height, x, y, r, g, b, &dx, &dy, &ratio);
+    let Kind::Known(dither) = patterns::dither_of(kind) else {
+        return;
+    };
+    match dither {
+        Dither::Atkinson => {
+            diffuse_atkinson(cells, width, height, x, y, r, g, b);
+        }
+        Dither::FloydSteinberg => {
+            diffuse_floyd_steinberg(cells, width, height, x, y, r, g, b);
+        }
+        _ => {}
     }
 }
 
-// Passes on what is left of a biased colour where another colour is chosen. No public call: the caller sees to the kind,
-// the pixel and the buffer's length.
+// Passes on what is left of a biased colour where another colour is chosen. No public call: the caller sees to the pixel
+// and the buffer's length.
 pub fn diffuse_residual(
     kind: u32,
     cells: &mut [f32],
@@ -221,7 +264,7 @@ pub fn diffuse_residual(
     biased: NormalizedColor,
     chosen: NormalizedColor,
 )
-    requires { ⌜ T (isDiffusion kind) × Spot width height x y × (length (now cells) ≡ 3 * (width * height)) ⌝ }
+    requires { ⌜ Spot width height x y × (length (now cells) ≡ 3 * (width * height)) ⌝ }
     ensures { λ _. ⌜ ((zs : List ℤ) → Cells 4080 (now (cells .entry)) zs
         → now (cells .exit) ≡ map sixteenths (sends zs (residualsOf (biased .0) (chosen .0)) (kernelOf kind) width height (y * width + x))) ⌝ }
 {

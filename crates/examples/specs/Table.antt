@@ -19,7 +19,9 @@ use Rattle.patterns.specs.declared.Thresholded.the-variants as thresholded
 use Rattle.patterns.specs.Thresholds.{thresholdOf}
 use Rattle.conversion.specs.Linear.{linearOf}
 use Rattle.conversion.specs.Oklab.{Millionths, millionthsAt}
-use Rattle.patterns.specs.Kernel.{Target, floydSteinberg, atkinson, heldBack}
+use Rattle.patterns.specs.declared.Dither.the-variants.{Atkinson, FloydSteinberg}
+use Rattle.patterns.specs.Kernel.{Target}
+use Rattle.patterns.specs.Kinds.{Way, way, kernelIn, heldIn}
 use Rattle.diffusion.specs.Biased.{biasedOf}
 use Rattle.diffusion.specs.Diffusion.{Channel, residual, lossOf}
 use Rattle.diffusion.specs.Account.{excess, lost, sent, isOutside, toSkipped, dropped, held}
@@ -94,13 +96,21 @@ pair second =
 abbrev pub fell : List Target → Channel → ℕ → ℤ
 fell k c i = sent isOutside k (c .width) (c .height) i (residual k c i)
 
-abbrev pub kept : List Target → Channel → ℕ → ℤ
-kept k c i = residual k c i *ℤ pos (heldBack k)
+abbrev pub kept : List Target → ℕ → Channel → ℕ → ℤ
+kept k h c i = residual k c i *ℤ pos h
 
 -- the account: sixteen times sources less choices; the losses; what reached skipped pixels; what was dropped, and of it each pixel's part; what
 -- was held back, and of it each pixel's part
-abbrev pub account : List Target → Channel → List Value
-account k c = whole (excess c) ∷ whole (lost k c) ∷ whole (toSkipped k c) ∷ whole (dropped k c) ∷ whole (fell k c 0) ∷ whole (fell k c 1) ∷ whole (held k c) ∷ whole (kept k c 0) ∷ whole (kept k c 1) ∷ []
+abbrev pub accountBy : List Target → ℕ → Channel → List Value
+accountBy k h c =
+    whole (excess c) ∷ whole (lost k c) ∷ whole (toSkipped k c)
+    ∷ whole (dropped k c) ∷ whole (fell k c 0) ∷ whole (fell k c 1)
+    ∷ whole (held k h c) ∷ whole (kept k h c 0) ∷ whole (kept k h c 1)
+    ∷ []
+
+-- by the kernel of a kind, and what it holds back
+abbrev pub account : Way → Channel → List Value
+account w c = accountBy (kernelIn w) (heldIn w) c
 
 abbrev pub naturals : List ℕ → List Value
 naturals = map natural
@@ -116,7 +126,7 @@ table =
     ∷ row 5 (millionthValues (millionthsAt (opaque 255 255 255))) (natural 999999 ∷ natural 2 ∷ whole (negsuc 0) ∷ [])
     ∷ row 6 (rounded 10 (pos 8)) (natural 11 ∷ whole (negsuc 7) ∷ [])
     ∷ row 6 (rounded 250 (pos 320)) (natural 255 ∷ natural 240 ∷ [])
-    ∷ row 7 (account floydSteinberg (pair true)) (naturals (1280 ∷ 0 ∷ 0 ∷ 1280 ∷ 720 ∷ 560 ∷ 0 ∷ 0 ∷ 0 ∷ []))
-    ∷ row 8 (account atkinson (pair true)) (naturals (1280 ∷ 0 ∷ 0 ∷ 920 ∷ 800 ∷ 120 ∷ 360 ∷ 320 ∷ 40 ∷ []))
-    ∷ row 9 (account floydSteinberg (pair false)) (naturals (1280 ∷ 0 ∷ 560 ∷ 720 ∷ 720 ∷ 0 ∷ 0 ∷ 0 ∷ 0 ∷ []))
+    ∷ row 7 (account (way FloydSteinberg) (pair true)) (naturals (1280 ∷ 0 ∷ 0 ∷ 1280 ∷ 720 ∷ 560 ∷ 0 ∷ 0 ∷ 0 ∷ []))
+    ∷ row 8 (account (way Atkinson) (pair true)) (naturals (1280 ∷ 0 ∷ 0 ∷ 920 ∷ 800 ∷ 120 ∷ 360 ∷ 320 ∷ 40 ∷ []))
+    ∷ row 9 (account (way FloydSteinberg) (pair false)) (naturals (1280 ∷ 0 ∷ 560 ∷ 720 ∷ 720 ∷ 0 ∷ 0 ∷ 0 ∷ 0 ∷ []))
     ∷ []

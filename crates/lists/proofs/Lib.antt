@@ -1,5 +1,6 @@
 -- The laws of `lists`.
 pub mod Bools
+pub mod Computed
 pub mod GatherLaws
 pub mod FillLaws
 pub mod FirstLaws

@@ -1,16 +1,16 @@
--- Shares from 0 to 1. The two tests give the bound, and clamping brings every number within it and leaves those that pass as they are, -0 too.
+-- Shares from 0 to 1. The two tests give the bound; what is clamped passes them, and clamping leaves those that pass as they are, -0 too.
 -- Of a fraction n / L, rounded once, with L up to 2 ^ 18 the tests say exactly that 0 ≤ n ≤ L. Assumes nothing.
 use mathlib.Core.Path.{_≡_, refl, sym, ap, _∙_, subst}
 use Prim.Native.Nat.{ℕ, zero, suc, _+_, _*_, _≤_, _<_, zero-le}
 use native.Mathlib.Nat.{le-trans, le-of-eq, mul-one, zero-mul, mul-pos}
 use native.Mathlib.Omega.{arith}
-use mathlib.Core.Bool.{Bool, true, false, not, _&&_, cond}
+use mathlib.Core.Bool.{Bool, true, false, not, _&&_, cond, true≢false}
 use borrow.Author.Tests.{le-ltb, ne-eqb}
 use lib.IntN.{negsuc}
-use lib.Dec.{T, leb, ltb, eqb, leb→le, nleb→lt, leb·zero, ltb→lt, nltb→le, eqb→eq, lit≤, lit<}
-use lib.Ieee.{Float, nan, inf, fin, binary32, up, down, round, neg, lt, eq, le}
-use lib.Ieee.Fits.{up-pos, and-i, and-l, and-r}
-use lib.Ieee.Order.{round-mono}
+use lib.Dec.{T, leb, ltb, eqb, leb→le, nleb→lt, leb·zero, ltb→lt, lt→ltb, nltb→le, eqb→eq, lit<}
+use lib.Ieee.{Float, nan, inf, fin, binary32, up, down, round, neg, lt, eq, le, isNan}
+use lib.Ieee.Fits.{up-pos, down-pos, and-i, and-l, and-r, eq→eqb}
+use lib.Ieee.Order.{le-of-values, round-mono}
 use lib.Ieee.Positive as positives
 use lib.Ieee.Scale.{round-same}
 use Rattle.floats.specs.Bounds.{Within}
@@ -18,7 +18,7 @@ use Rattle.floats.specs.Bytes.{zeroF, oneF}
 use Rattle.floats.specs.Whole.{val}
 use Rattle.floats.proofs.At.{same-test}
 use Rattle.floats.proofs.Within.{le-of-test, round-neg}
-use Rattle.floats.proofs.Range.{flip}
+use Rattle.floats.proofs.Range.{flip, or-l}
 use Rattle.mixing.specs.Lerp.{clampOf, between, inside, minusZero}
 
 -- ---- the tests give the bound
@@ -33,7 +33,8 @@ unfolding le
 tests-within nan a b = absurd a
 tests-within (inf true) a b = absurd a
 tests-within (inf false) a b = absurd b
-tests-within (fin true m e) a b = none (m * up e) (down e) (eqb→eq (0 * 1 * down e) (m * up e * 1) (and-l (eqb (0 * 1 * down e) (m * up e * 1)) (eqb (0 * 1 * down e) 0) a))
+tests-within (fin true m e) a b =
+    none (m * up e) (down e) (eqb→eq (0 * 1 * down e) (m * up e * 1) (and-l (eqb (0 * 1 * down e) (m * up e * 1)) (eqb (0 * 1 * down e) 0) a))
 tests-within (fin false m e) a b = cut (m * up e) (down e) (le-of-test (m * up e * 1) (1 * 1 * down e) true b)
 
 pub between-within : (t : Float) → between t ≡ true → Within 1 t
@@ -41,27 +42,59 @@ unfolding between
 between-within t e = let h : T (between t) = subst T (sym e) tt in tests-within t (and-l (le zeroF t) (le t oneF) h) (and-r (le zeroF t) (le t oneF) h)
 
 -- ---- clamping
-flat : (x e : ℕ) → x * 1 + 0 * 1 * e ≤ 0 → x ≤ 1 * e
-flat x e h = le-trans (zeroed (x * 1) (0 * 1 * e) x (mul-one x) h) zero-le
-  where
-    zeroed : (p q r : ℕ) → p ≡ r → p + q ≤ 0 → r ≤ 0
-    zeroed p q r i j = omega arith
+pub zero-between : between zeroF ≡ true
+unfolding between le
+zero-between = refl
 
-pub clamp-within : (A : ℕ) (t : Float) → Within A t → Within 1 (clampOf t)
-unfolding clampOf lt
-clamp-within A nan h = absurd h
-clamp-within A (inf s) h = absurd h
-clamp-within A (fin true m e) h = go (ltb 0 (m * up e * 1 + 0 * 1 * down e)) (nltb→le 0 (m * up e * 1 + 0 * 1 * down e))
+one-between : between oneF ≡ true
+unfolding between le
+one-between = refl
+
+-- a number that is not below 0 is at least 0
+at-least-0 : (t : Float) → T (not (isNan t)) → lt t zeroF ≡ false → T (le zeroF t)
+unfolding lt le isNan
+at-least-0 nan n h = absurd n
+at-least-0 (inf true) n h = absurd (true≢false h)
+at-least-0 (inf false) n h = tt
+at-least-0 (fin true m e) n h = equal (m * up e) (down e) (subst (λ (b : Bool). T (not b)) (sym h) tt)
   where
-    go : (u : Bool) → (T (not u) → m * up e * 1 + 0 * 1 * down e ≤ 0) → Within 1 (cond u zeroF (fin true m e))
-    go true k = lit≤ tt
-    go false k = flat (m * up e) (down e) (k tt)
-clamp-within A (fin false m e) h = go (ltb (m * up e * 1) (0 * 1 * down e)) (ltb (1 * 1 * down e) (m * up e * 1)) (nltb→le (1 * 1 * down e) (m * up e * 1))
+    zeros : (x e : ℕ) → x * 1 + 0 * 1 * e ≤ 0 → 0 * 1 * e ≡ x * 1
+    zeros x e k = omega (arith, zero-mul 1, zero-mul e)
+
+    equal : (x e : ℕ) → T (not (ltb 0 (x * 1 + 0 * 1 * e))) → T (eqb (0 * 1 * e) (x * 1) && eqb (0 * 1 * e) 0)
+    equal x e k =
+        and-i (eqb (0 * 1 * e) (x * 1)) (eqb (0 * 1 * e) 0) (eq→eqb (zeros x e (nltb→le 0 (x * 1 + 0 * 1 * e) k)))
+        (eq→eqb (ap (λ (z : ℕ). z * e) (zero-mul 1) ∙ zero-mul e))
+at-least-0 (fin false m e) n h =
+    le-of-values zeroF (fin false m e) 0 1 (m * up e) (down e) (lit< tt) (down-pos e) (refl, refl) (refl, refl)
+    (le-trans (le-of-eq (zero-mul (down e))) zero-le)
+
+-- and one that is not above 1 is at most 1
+at-most-1 : (t : Float) → T (not (isNan t)) → lt oneF t ≡ false → T (le t oneF)
+unfolding lt le isNan
+at-most-1 nan n h = absurd n
+at-most-1 (inf true) n h = tt
+at-most-1 (inf false) n h = absurd (true≢false h)
+at-most-1 (fin true m e) n h = or-l (ltb 0 (m * up e * 1 + 1 * 1 * down e)) _ (lt→ltb 0 (m * up e * 1 + 1 * 1 * down e) (some (m * up e) (down e) (down-pos e)))
   where
-    go : (u v : Bool) → (T (not v) → m * up e * 1 ≤ 1 * 1 * down e) → Within 1 (cond u zeroF (cond v oneF (fin false m e)))
-    go true v k = lit≤ tt
-    go false true k = lit≤ tt
-    go false false k = cut (m * up e) (down e) (k tt)
+    some : (x e : ℕ) → 0 < e → 0 < x * 1 + 1 * 1 * e
+    some x e E = omega arith
+at-most-1 (fin false m e) n h =
+    le-of-values (fin false m e) oneF (m * up e) (down e) 1 1 (down-pos e) (lit< tt) (refl, refl) (refl, refl)
+    (over (m * up e) (down e) (subst (λ (b : Bool). T (not b)) (sym h) tt))
+  where
+    over : (x e : ℕ) → T (not (ltb (1 * 1 * e) (x * 1))) → x * 1 ≤ 1 * e
+    over x e k = nltb→le (1 * 1 * e) (x * 1) k
+
+-- what is clamped is from 0 to 1, whatever number it was
+pub clamp-between : (t : Float) → T (not (isNan t)) → between (clampOf t) ≡ true
+unfolding between clampOf
+clamp-between t n = go (lt t zeroF) (lt oneF t) refl refl
+  where
+    go : (u v : Bool) → lt t zeroF ≡ u → lt oneF t ≡ v → between (cond u zeroF (cond v oneF t)) ≡ true
+    go true v p q = zero-between
+    go false true p q = one-between
+    go false false p q = same-test (between t) true (λ h. tt) (λ h. and-i (le zeroF t) (le t oneF) (at-least-0 t n p) (at-most-1 t n q))
 
 -- what is at most another is not above it
 not-above : (x y : Float) → T (le x y) → lt y x ≡ false
@@ -93,10 +126,6 @@ unfolding between clampOf
 clamp-stays t e =
     let h : T (between t) = subst T (sym e) tt in
     rw (not-above zeroF t (and-l (le zeroF t) (le t oneF) h), not-above t oneF (and-r (le zeroF t) (le t oneF) h))
-
-pub zero-between : between zeroF ≡ true
-unfolding between le
-zero-between = refl
 
 pub minus-zero-between : between minusZero ≡ true
 unfolding between le
@@ -176,7 +205,8 @@ module _ (L : ℕ) (P : 0 < L) (Q : L ≤ 262144) where
   unfolding between
   between-plus n =
       let x = round binary32 false n L in
-      same-test (between x) (leb n L) (λ t. go (leb n L) (nleb→lt n L) (and-r (le zeroF x) (le x oneF) t)) (λ t. and-i (le zeroF x) (le x oneF) (low n) (high n (leb→le n L t)))
+      same-test (between x) (leb n L) (λ t. go (leb n L) (nleb→lt n L) (and-r (le zeroF x) (le x oneF) t))
+      (λ t. and-i (le zeroF x) (le x oneF) (low n) (high n (leb→le n L t)))
     where
       go : (b : Bool) → (T (not b) → L < n) → T (le (round binary32 false n L) oneF) → T b
       go true h t = tt

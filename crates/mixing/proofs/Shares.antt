@@ -1,5 +1,5 @@
 -- `lerp` of bytes. Numerator and denominator are whole numbers that f32 holds, so the unclamped share is their quotient, rounded once: never a NaN,
--- 0 where the ends have equal rgb, -0 only where the numerator is 0; and it is from 0 to 1 exactly where 0 ≤ numerator ≤ denominator.
+-- 0 where the ends have equal rgb, -0 only where the numerator is 0; and it is from 0 to 1 exactly where 0 ≤ numerator ≤ denominator, and clamped always.
 -- Assumes nothing.
 use mathlib.Core.Path.{_≡_, refl, sym, ap, _∙_, subst}
 use mathlib.Core.Logic.{_⊎_, inl, inr}
@@ -24,8 +24,8 @@ use Rattle.floats.proofs.Order.{within-not-nan}
 use Rattle.floats.proofs.Whole.{whole-plain, whole-div, quotient, quotient-within}
 use Rattle.floats.proofs.Dot.{Triple, dot-whole, dot-bound, square-dot, square, squares}
 use Rattle.floats.proofs.Bytes.{diffs, diff-within}
-use Rattle.mixing.specs.Lerp.{less, along, shareOf, between, minusZero, Bytes, EqualRgb, numerator, denominator, inside}
-use Rattle.mixing.proofs.Between.{zero-between, between-round}
+use Rattle.mixing.specs.Lerp.{byteMinus, along, shareOf, lerpOf, between, minusZero, Bytes, EqualRgb, numerator, denominator, inside}
+use Rattle.mixing.proofs.Between.{zero-between, clamp-between, between-round}
 
 -- ---- whole numbers
 no-difference : (a b : ℕ) → b ≡ a → diff a b ≡ pos 0
@@ -53,8 +53,11 @@ eq-zero (inf s) a h = absurd h
 eq-zero (fin true m e) a h = absurd (true≢false (h .0))
 eq-zero (fin false m e) a h =
     same-test (eqb (m * up e * 1) (0 * 1 * down e) && true) (eqb a 0)
-    (λ t. eq→eqb (first-zero a (down e) (down-pos e) (sym (h .1) ∙ eqb→eq (m * up e * 1) (0 * 1 * down e) (and-l (eqb (m * up e * 1) (0 * 1 * down e)) true t) ∙ ap (λ (z : ℕ). z * down e) (zero-mul 1) ∙ zero-mul (down e))))
-    (λ t. and-i (eqb (m * up e * 1) (0 * 1 * down e)) true (eq→eqb (h .1 ∙ ap (λ (z : ℕ). z * down e) (eqb→eq a 0 t) ∙ ap (λ (z : ℕ). z * down e) (sym (zero-mul 1)))) tt)
+    (λ t. eq→eqb (first-zero a (down e) (down-pos e)
+    (sym (h .1) ∙ eqb→eq (m * up e * 1) (0 * 1 * down e) (and-l (eqb (m * up e * 1) (0 * 1 * down e)) true t) ∙ ap (λ (z : ℕ). z * down e) (zero-mul 1)
+    ∙ zero-mul (down e))))
+    (λ t. and-i (eqb (m * up e * 1) (0 * 1 * down e)) true
+    (eq→eqb (h .1 ∙ ap (λ (z : ℕ). z * down e) (eqb→eq a 0 t) ∙ ap (λ (z : ℕ). z * down e) (sym (zero-mul 1)))) tt)
   where
     first-zero : (p q : ℕ) → 0 < q → p * q ≡ 0 → p ≡ 0
     first-zero zero q Q k = refl
@@ -90,13 +93,14 @@ module _ (c1 c2 : NormalizedColor) where
 
 -- the differences of two colours of bytes
 apart : (c d : NormalizedColor) → Bytes c → Bytes d
-    → Triple (diff (c .0 .r) (d .0 .r)) (diff (c .0 .g) (d .0 .g)) (diff (c .0 .b) (d .0 .b)) (less (c .0 .r) (d .0 .r)) (less (c .0 .g) (d .0 .g)) (less (c .0 .b) (d .0 .b))
-unfolding less
+    → Triple (diff (c .0 .r) (d .0 .r)) (diff (c .0 .g) (d .0 .g)) (diff (c .0 .b) (d .0 .b)) (byteMinus (c .0 .r) (d .0 .r)) (byteMinus (c .0 .g) (d .0 .g))
+    (byteMinus (c .0 .b) (d .0 .b))
+unfolding byteMinus
 apart c d C D = diffs (c .0 .r) (c .0 .g) (c .0 .b) (d .0 .r) (d .0 .g) (d .0 .b) (C .r) (C .g) (C .b) (D .r) (D .g) (D .b)
 
-less-within : (a b : ℕ) → a < 256 → b < 256 → Within 510 (less a b)
-unfolding less
-less-within a b A B = diff-within a b A B
+minus-within : (a b : ℕ) → a < 256 → b < 256 → Within 510 (byteMinus a b)
+unfolding byteMinus
+minus-within a b A B = diff-within a b A B
 
 -- ---- the sums of products are exact
 module _ (c1 c2 color : NormalizedColor) (A : Bytes c1) (B : Bytes c2) (C : Bytes color) where
@@ -120,12 +124,15 @@ module _ (c1 c2 : NormalizedColor) (A : Bytes c1) (B : Bytes c2) where
   unfolding along
   length-is =
       whole-plain 780300 (numerator c1 c2 c2) (along c1 c2 c2) (along-whole c1 c2 c2 A B B)
-      (square-dot 510 _ _ _ (lit≤ tt) (less-within (c2 .0 .r) (c1 .0 .r) (B .r) (A .r)) (less-within (c2 .0 .g) (c1 .0 .g) (B .g) (A .g)) (less-within (c2 .0 .b) (c1 .0 .b) (B .b) (A .b)))
+      (square-dot 510 _ _ _ (lit≤ tt) (minus-within (c2 .0 .r) (c1 .0 .r) (B .r) (A .r)) (minus-within (c2 .0 .g) (c1 .0 .g) (B .g) (A .g))
+      (minus-within (c2 .0 .b) (c1 .0 .b) (B .b) (A .b)))
       ∙ ap (λ (z : ℤ). wholef z) (denominator-is c1 c2)
 
   -- the code's test of the length
   length-test : eq (along c1 c2 c2) zeroF ≡ eqb (denominator c1 c2) 0
-  length-test = ap (λ (x : Float). eq x zeroF) length-is ∙ eq-zero (wholef (pos (denominator c1 c2))) (denominator c1 c2) (over-value 0 (pos (denominator c1 c2)) (lit≤ tt) small)
+  length-test =
+      ap (λ (x : Float). eq x zeroF) length-is
+      ∙ eq-zero (wholef (pos (denominator c1 c2))) (denominator c1 c2) (over-value 0 (pos (denominator c1 c2)) (lit≤ tt) small)
 
 -- ---- the share
 module _ (c1 c2 color : NormalizedColor) (A : Bytes c1) (B : Bytes c2) (C : Bytes color) where
@@ -145,17 +152,21 @@ module _ (c1 c2 color : NormalizedColor) (A : Bytes c1) (B : Bytes c2) (C : Byte
       not-zero n h e = omega arith
 
   -- numerator / denominator, rounded once; where the numerator is 0 it can be -0
-  pub share-is : 0 < denominator c1 c2 → (shareOf c1 c2 color ≡ over (denominator c1 c2) (numerator c1 c2 color)) ⊎ ((numerator c1 c2 color ≡ pos 0) × (shareOf c1 c2 color ≡ minusZero))
-  share-is h = elim (quotient (numerator c1 c2 color) (denominator c1 c2) (along c1 c2 color) (along-whole c1 c2 color A B C) (lt-of-le-of-lt (numerator-bound c1 c2 color A B C) (lit< tt)) h (small c1 c2 A B)) [
-    | inl e ↦ inl (share-quotient h ∙ e)
-    | inr e ↦ inr (e .0, share-quotient h ∙ e .1)
-  ]
+  pub share-is : 0 < denominator c1 c2 → (shareOf c1 c2 color ≡ over (denominator c1 c2) (numerator c1 c2 color))
+      ⊎ ((numerator c1 c2 color ≡ pos 0) × (shareOf c1 c2 color ≡ minusZero))
+  share-is h =
+      elim (quotient (numerator c1 c2 color) (denominator c1 c2) (along c1 c2 color) (along-whole c1 c2 color A B C)
+      (lt-of-le-of-lt (numerator-bound c1 c2 color A B C) (lit< tt)) h (small c1 c2 A B)) [
+        | inl e ↦ inl (share-quotient h ∙ e)
+        | inr e ↦ inr (e .0, share-quotient h ∙ e .1)
+      ]
 
   pub share-within : Within 195075 (shareOf c1 c2 color)
   share-within = elim (eq-zero-or-pos (denominator c1 c2)) [
     | inl h ↦ subst (λ (x : Float). Within 195075 x) (sym (share-zero h)) (lit≤ tt)
     | inr h ↦ subst (λ (x : Float). Within 195075 x) (sym (share-quotient h))
-        (quotient-within 195075 (numerator c1 c2 color) (denominator c1 c2) (along c1 c2 color) (along-whole c1 c2 color A B C) (numerator-bound c1 c2 color A B C) (lit< tt) h (small c1 c2 A B))
+        (quotient-within 195075 (numerator c1 c2 color) (denominator c1 c2) (along c1 c2 color) (along-whole c1 c2 color A B C)
+        (numerator-bound c1 c2 color A B C) (lit< tt) h (small c1 c2 A B))
   ]
 
   pub share-number : T (not (isNan (shareOf c1 c2 color)))
@@ -166,6 +177,16 @@ module _ (c1 c2 color : NormalizedColor) (A : Bytes c1) (B : Bytes c2) (C : Byte
   share-between = elim (eq-zero-or-pos (denominator c1 c2)) [
     | inl h ↦ rw (share-zero h, no-numerator c1 c2 color h, h) zero-between
     | inr h ↦ let w = along-whole c1 c2 color A B C in
-        rw (share-quotient h, whole-div (numerator c1 c2 color) (denominator c1 c2) (along c1 c2 color) w (lt-of-le-of-lt (numerator-bound c1 c2 color A B C) (lit< tt)) h (small c1 c2 A B), ← w .value)
+        rw (
+          share-quotient h,
+          whole-div (numerator c1 c2 color) (denominator c1 c2) (along c1 c2 color) w
+              (lt-of-le-of-lt (numerator-bound c1 c2 color A B C) (lit< tt)) h (small c1 c2 A B),
+          ← w .value,
+        )
         (between-round (denominator c1 c2) h (le-trans (denominator-bound c1 c2 A B) (lit≤ tt)) (w .sign) (w .size))
   ]
+
+  -- and clamped it always is
+  pub clamped-between : between (lerpOf c1 c2 color true) ≡ true
+  unfolding lerpOf
+  clamped-between = clamp-between (shareOf c1 c2 color) share-number

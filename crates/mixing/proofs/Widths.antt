@@ -1,21 +1,27 @@
 -- Widths. `sixteenth n` is the only whole number q with n / 16 from q - 1/2, which is in, to q + 1/2, which is not; a width is from 1 to 16, and
--- 16 for more than 256 colours. Assumes nothing.
-use mathlib.Core.Path.{_≡_, sym, subst}
+-- 16 for more than 256 colours. And what `bracket_width` answers, by its number. Assumes nothing.
+use mathlib.Core.Path.{_≡_, refl, sym, subst}
 use mathlib.Core.Logic.{inl, inr}
 use mathlib.Core.Bool.{true, _||_}
-use Prim.Native.Nat.{ℕ, _+_, _*_, _≤_, _<_}
+use Prim.Native.Nat.{ℕ, zero, suc, _+_, _*_, _≤_, _<_}
 use native.Mathlib.Nat.{mul-le-mul, le-of-lt}
 use native.Mathlib.Omega.{arith}
 use lib.Dec.{T, eqb, eqb→eq}
 use mir.Facts.{or-yes}
+use Rattle.replies.proofs.AnswerLaws.{answered, answers}
+use Rattle.mixing.specs.declared.Width.{Width}
 use Rattle.mixing.specs.Widths.{isShift, clampWidth, sixteenth, widthOf}
+use Rattle.mixing.specs.Widths.{numberOf, widthReplies, widthAnswer, BracketWidthAnswered, bracketWidthOf}
 
 -- ---- the shifts
 pub shift-range : (s : ℕ) → isShift s ≡ true → (3 ≤ s) × (s ≤ 5)
 unfolding isShift
 shift-range s e = elim (or-yes (eqb s 3) (eqb s 4 || eqb s 5) (subst T (sym e) tt)) [
   | inl t ↦ near s 3 (eqb→eq s 3 t) (omega arith) (omega arith)
-  | inr t ↦ elim (or-yes (eqb s 4) (eqb s 5) t) [ inl u ↦ near s 4 (eqb→eq s 4 u) (omega arith) (omega arith) | inr u ↦ near s 5 (eqb→eq s 5 u) (omega arith) (omega arith) ]
+  | inr t ↦ elim (or-yes (eqb s 4) (eqb s 5) t) [
+    | inl u ↦ near s 4 (eqb→eq s 4 u) (omega arith) (omega arith)
+    | inr u ↦ near s 5 (eqb→eq s 5 u) (omega arith) (omega arith)
+  ]
 ]
   where
     near : (s k : ℕ) → s ≡ k → 3 ≤ k → k ≤ 5 → (3 ≤ s) × (s ≤ 5)
@@ -50,3 +56,16 @@ width-full s m h k = full (m * s) (mul-le-mul (le-of-lt k) h)
   where
     full : (p : ℕ) → 256 * 3 ≤ p → clampWidth (sixteenth p) ≡ 16
     full p h = omega arith
+
+-- ---- the answer
+module _ (s m : ℕ) where
+  -- what is answered with a number has that number
+  own : (n : ℕ) → numberOf (widthAnswer s m n) ≡ n
+  own zero = refl
+  own (suc n) = refl
+
+  pub width-promised : {r : Width} → r ≡ bracketWidthOf s m → BracketWidthAnswered s m r
+  width-promised e = answers numberOf (widthReplies s) (widthAnswer s m) own e
+
+  pub width-answered : {r : Width} → BracketWidthAnswered s m r → r ≡ bracketWidthOf s m
+  width-answered p = answered numberOf (widthReplies s) (widthAnswer s m) p

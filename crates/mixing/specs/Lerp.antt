@@ -11,14 +11,14 @@ use Rattle.color.specs.declared.NormalizedColor.{NormalizedColor}
 use Rattle.floats.specs.Bytes.{zeroF, oneF, byteF, diff, dot, dotℤ}
 
 -- a byte less another
-unfoldable pub less : ℕ → ℕ → Float
-less a b = sub binary32 (byteF a) (byteF b)
+unfoldable pub byteMinus : ℕ → ℕ → Float
+byteMinus a b = sub binary32 (byteF a) (byteF b)
 
 -- (color - c1) · (c2 - c1), over red, green and blue
 unfoldable pub along : NormalizedColor → NormalizedColor → NormalizedColor → Float
 along c1 c2 color =
-    dot (less (color .0 .r) (c1 .0 .r)) (less (color .0 .g) (c1 .0 .g)) (less (color .0 .b) (c1 .0 .b))
-    (less (c2 .0 .r) (c1 .0 .r)) (less (c2 .0 .g) (c1 .0 .g)) (less (c2 .0 .b) (c1 .0 .b))
+    dot (byteMinus (color .0 .r) (c1 .0 .r)) (byteMinus (color .0 .g) (c1 .0 .g)) (byteMinus (color .0 .b) (c1 .0 .b))
+    (byteMinus (c2 .0 .r) (c1 .0 .r)) (byteMinus (c2 .0 .g) (c1 .0 .g)) (byteMinus (c2 .0 .b) (c1 .0 .b))
 
 -- the share of c2 in the mix of c1 and c2 that comes nearest to the colour, not clamped; 0 where the ends are equal
 unfoldable pub shareOf : NormalizedColor → NormalizedColor → NormalizedColor → Float
@@ -36,13 +36,17 @@ clampOf t = cond (lt t zeroF) zeroF (cond (lt oneF t) oneF t)
 unfoldable pub lerpOf : NormalizedColor → NormalizedColor → NormalizedColor → Bool → Float
 lerpOf c1 c2 color clamp = cond clamp (clampOf (shareOf c1 c2 color)) (shareOf c1 c2 color)
 
+-- what `lerp` promises of its answer r
+abbrev pub LerpAnswered : (c1 c2 color : NormalizedColor) → Bool → Float → Type 0
+LerpAnswered c1 c2 color clamp r = r ≡ lerpOf c1 c2 color clamp
+
 -- from 0 to 1; -0 is, and a NaN is not
 unfoldable pub between : Float → Bool
 between t = le zeroF t && le t oneF
 
 -- c1 and c2 mixed, with the share t of c2, in one channel
 unfoldable pub mixOf : ℕ → ℕ → Float → Float
-mixOf c1 c2 t = add binary32 (byteF c1) (mul binary32 t (less c2 c1))
+mixOf c1 c2 t = add binary32 (byteF c1) (mul binary32 t (byteMinus c2 c1))
 
 -- the squared error of the mix against the colour
 unfoldable pub mixResidual : NormalizedColor → NormalizedColor → Float → NormalizedColor → Float

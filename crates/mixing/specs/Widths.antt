@@ -1,8 +1,11 @@
 -- The shifts of the modes, and the width of a bracket. Definitions only.
 -- Written from document 01, "Choosing colours": "`bracket_width`: max·shift/16, rounded with halves up, clamped to 1..16", and refusal 1.
-use Prim.Native.Nat.{ℕ, _+_, _*_, _/_, min, max}
-use mathlib.Core.Bool.{Bool, cond, not, _||_}
+use Prim.Native.Nat.{ℕ, zero, suc, _+_, _*_, _/_, min, max}
+use mathlib.Core.Bool.{Bool, not, _||_}
+use mathlib.Core.List.{List, [], _∷_}
 use lib.Dec.{eqb, ltb}
+use Rattle.replies.specs.Replies.{Reply, _if_, firstReply}
+use Rattle.replies.specs.Answers.{Answers}
 use Rattle.mixing.specs.declared.Width.{Width}
 use Rattle.mixing.specs.declared.Width.the-variants.{Of, Refused}
 
@@ -26,11 +29,25 @@ sixteenth n = (n + 8) / 16
 unfoldable pub widthOf : ℕ → ℕ → ℕ
 widthOf shift m = clampWidth (sixteenth (m * shift))
 
--- what `bracket_width` answers: the width, or 1 for another shift
-unfoldable pub bracketWidthOf : ℕ → ℕ → Width
-bracketWidthOf shift m = cond (isShift shift) (Of (widthOf shift m)) (Refused 1)
-
+-- ---- what `bracket_width` answers
 -- document 01's number of an answer
 abbrev pub numberOf : Width → ℕ
 numberOf (Of w) = 0
 numberOf (Refused n) = n
+
+-- the numbers, and when each applies: 1 for another shift
+abbrev pub widthReplies : (shift : ℕ) → List Reply
+widthReplies shift = (1 if not (isShift shift)) ∷ []
+
+-- what is answered with a number: the width with 0, and else the number alone
+abbrev pub widthAnswer : (shift m : ℕ) → ℕ → Width
+widthAnswer shift m zero = Of (widthOf shift m)
+widthAnswer shift m (suc n) = Refused (suc n)
+
+-- what `bracket_width` promises of its answer r
+abbrev pub BracketWidthAnswered : (shift m : ℕ) → Width → Type 0
+BracketWidthAnswered shift m r = Answers numberOf (widthReplies shift) (widthAnswer shift m) r
+
+-- the answer that has the promise (proofs/Widths, `width-answered`)
+abbrev pub bracketWidthOf : (shift m : ℕ) → Width
+bracketWidthOf shift m = widthAnswer shift m (firstReply (widthReplies shift))

@@ -1,10 +1,12 @@
 // Mixes of two colours: the share of a colour between two others, the error of a mix, and how wide a bracket is looked
-// for. Names and order are those of src/dither.rs.
+// for. `bracket_width`, `lerp` and `mix_residual` are named as in src/dither.rs, and stand in its order. There
+// `bracket_width` is asked for a mode; here it takes the mode's shift, and refuses what is none. The functions under the
+// three are added.
 ghost use mathlib.Core.Path.{_≡_};
 ghost use mathlib.Core.Bool.{true};
 ghost use Rattle.floats.specs.Bytes.{dot};
-ghost use Rattle.mixing.specs.Widths.{isShift, modeWrong, clampWidth, widthOf, bracketWidthOf};
-ghost use Rattle.mixing.specs.Lerp.{less, along, shareOf, clampOf, lerpOf, mixOf, mixResidual};
+ghost use Rattle.mixing.specs.Widths.{isShift, modeWrong, clampWidth, widthOf, BracketWidthAnswered};
+ghost use Rattle.mixing.specs.Lerp.{byteMinus, along, shareOf, clampOf, LerpAnswered, mixOf, mixResidual};
 use color::NormalizedColor;
 
 // ---- the width of a bracket
@@ -58,9 +60,9 @@ pub fn width_of(shift: u32, max: u64) -> u64
     clamp_width((max * shift as u64 + 8) / 16)
 }
 
-// Number of candidates to consider in `nearest_two`, or 1 for another shift.
+// Number of candidates to consider in `nearest_two`; another shift is refused with 1.
 pub fn bracket_width(shift: u32, max: u64) -> Width
-    ensures { λ r. ⌜ r ≡ bracketWidthOf shift max ⌝ }
+    ensures { λ r. ⌜ BracketWidthAnswered shift max r ⌝ }
 {
     if is_shift(shift) {
         return Width::Of(width_of(shift, max));
@@ -71,8 +73,8 @@ pub fn bracket_width(shift: u32, max: u64) -> Width
 // ---- the share of a colour between two others
 
 // A byte less another.
-fn less(a: u8, b: u8) -> f32
-    ensures { λ r. ⌜ r ≡ less a b ⌝ }
+fn byte_minus(a: u8, b: u8) -> f32
+    ensures { λ r. ⌜ r ≡ byteMinus a b ⌝ }
 {
     a as f32 - b as f32
 }
@@ -87,12 +89,12 @@ fn dot(px: f32, py: f32, pz: f32, dx: f32, dy: f32, dz: f32) -> f32
 fn along(c1: NormalizedColor, c2: NormalizedColor, color: NormalizedColor) -> f32
     ensures { λ r. ⌜ r ≡ along c1 c2 color ⌝ }
 {
-    let dx = less(c2.0.r, c1.0.r);
-    let dy = less(c2.0.g, c1.0.g);
-    let dz = less(c2.0.b, c1.0.b);
-    let px = less(color.0.r, c1.0.r);
-    let py = less(color.0.g, c1.0.g);
-    let pz = less(color.0.b, c1.0.b);
+    let dx = byte_minus(c2.0.r, c1.0.r);
+    let dy = byte_minus(c2.0.g, c1.0.g);
+    let dz = byte_minus(c2.0.b, c1.0.b);
+    let px = byte_minus(color.0.r, c1.0.r);
+    let py = byte_minus(color.0.g, c1.0.g);
+    let pz = byte_minus(color.0.b, c1.0.b);
     dot(px, py, pz, dx, dy, dz)
 }
 
@@ -118,7 +120,7 @@ fn clamp_share(t: f32) -> f32
 }
 
 pub fn lerp(c1: NormalizedColor, c2: NormalizedColor, color: NormalizedColor, clamp: bool) -> f32
-    ensures { λ r. ⌜ r ≡ lerpOf c1 c2 color clamp ⌝ }
+    ensures { λ r. ⌜ LerpAnswered c1 c2 color clamp r ⌝ }
 {
     let t = share(c1, c2, color);
     if clamp { clamp_share(t) } else { t }
@@ -130,7 +132,7 @@ pub fn lerp(c1: NormalizedColor, c2: NormalizedColor, color: NormalizedColor, cl
 fn mix(c1: u8, c2: u8, t: f32) -> f32
     ensures { λ r. ⌜ r ≡ mixOf c1 c2 t ⌝ }
 {
-    c1 as f32 + t * less(c2, c1)
+    c1 as f32 + t * byte_minus(c2, c1)
 }
 
 // Squared error against `color` after mixing `a` and `b` at `t`. No public call.

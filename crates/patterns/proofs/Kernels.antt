@@ -1,21 +1,19 @@
--- The two kernels: Atkinson holds back four sixteenths and Floyd-Steinberg none; of every kind's kernel the targets come later in the scan, and
--- it passes on no more than there is. Assumes nothing.
-use mathlib.Core.Path.{_≡_, refl}
-use Prim.Native.Nat.{ℕ, _≤_}
-use lib.Dec.{T, leb, leb→le}
-use Rattle.patterns.specs.Kernel.{atkinson, floydSteinberg, total, heldBack, positive, comesLater, later}
-use Rattle.patterns.specs.Kinds.{kindOf, wayOf, kernelIn, kernelOf}
+-- The kernels of the table: of every kind's kernel the targets come later in the scan, and it passes on no more than there is; what a diffusion kind
+-- passes on and holds back are all sixteen sixteenths. Assumes nothing.
+use mathlib.Core.Path.{_≡_, refl, ap, subst}
+use mathlib.Core.Bool.{Bool, true, not, _||_}
+use Prim.Native.Nat.{ℕ, _+_, _≤_}
+use lib.Dec.{T, eqb, leb, leb→le, eqb→eq}
+use Rattle.patterns.specs.declared.Kind.{Kind}
+use Rattle.patterns.specs.Kernel.{total, positive, comesLater, later}
+use Rattle.patterns.specs.Kinds.{kindOf, wayIn, wayOf, hasKernel, kernelIn, heldIn, isDiffusion, kernelOf, heldOf}
 use Rattle.patterns.proofs.Numbers.{of-all}
 
-pub atkinson-held-back : heldBack atkinson ≡ 4
-unfolding heldBack total
-atkinson-held-back = refl
+-- the kernel, by what the number stands for
+pub kernel-in : (k : ℕ) (r : Kind) → r ≡ kindOf k → kernelIn (wayIn r) ≡ kernelOf k
+unfolding kernelOf wayOf
+kernel-in k r e = ap (λ (v : Kind). kernelIn (wayIn v)) e
 
-pub floyd-steinberg-held-back : heldBack floydSteinberg ≡ 0
-unfolding heldBack total
-floyd-steinberg-held-back = refl
-
--- every kind's kernel
 pub kernel-later : (kind : ℕ) → T (later (kernelOf kind))
 unfolding kernelOf wayOf kindOf later comesLater positive
 kernel-later kind = of-all (λ w. later (kernelIn w)) refl refl kind
@@ -23,3 +21,9 @@ kernel-later kind = of-all (λ w. later (kernelIn w)) refl refl kind
 pub kernel-total : (kind : ℕ) → total (kernelOf kind) ≤ 16
 unfolding kernelOf wayOf kindOf total
 kernel-total kind = leb→le (total (kernelOf kind)) 16 (of-all (λ w. leb (total (kernelIn w)) 16) refl refl kind)
+
+pub kernel-whole : (kind : ℕ) → isDiffusion kind ≡ true → total (kernelOf kind) + heldOf kind ≡ 16
+unfolding isDiffusion kernelOf heldOf wayOf kindOf total
+kernel-whole kind d =
+    let t = of-all (λ w. not (hasKernel w) || eqb (total (kernelIn w) + heldIn w) 16) refl refl kind in
+    eqb→eq (total (kernelOf kind) + heldOf kind) 16 (subst (λ (b : Bool). T (not b || eqb (total (kernelOf kind) + heldOf kind) 16)) d t)

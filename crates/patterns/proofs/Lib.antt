@@ -1,5 +1,4 @@
 -- The laws of `patterns`.
-pub mod Computed
 pub mod Numbers
 pub mod Kernels
 pub mod Thresholds

@@ -1,7 +1,7 @@
 -- The kinds by number: they are 0 to 10, the ordered kinds are 1 to 8, Atkinson and Floyd-Steinberg are 9 and 10, and there is none above. What
 -- holds of the ways of the eleven kinds, by a computed test, and where there is none, holds of every number. Assumes nothing.
 use mathlib.Core.Path.{_≡_, refl, ap, _∙_}
-use mathlib.Core.Bool.{Bool, true, false, not, cond, _&&_, _||_}
+use mathlib.Core.Bool.{Bool, true, false, not, _&&_, _||_}
 use mathlib.Core.List.{List, [], _∷_, map}
 use Prim.Native.Nat.{ℕ, zero, suc, _≤_, _<_}
 use native.Mathlib.Nat.{le-of-suc-le-suc, not-suc-le-zero}
@@ -12,9 +12,9 @@ use lib.ListN.{length, getD, List·getD-eq-default}
 use Rattle.patterns.specs.declared.Dither.{Dither}
 use Rattle.patterns.specs.declared.Dither.the-variants.{Off}
 use Rattle.patterns.specs.declared.Kind.the-variants.{Known, Unknown}
-use Rattle.patterns.specs.Kernel.{atkinson, floydSteinberg}
-use Rattle.patterns.specs.Kinds.{kinds, kindOf, Way, plain, ordered, diffused, none, wayOf, isWay, hasMatrix, hasKernel, kernelIn, isKind, isOrdered, isDiffusion, kernelOf}
-use Rattle.patterns.proofs.Computed.{from, agree}
+use Rattle.patterns.specs.Kinds.{kinds, kindOf, Way, plain, ordered, diffused, none, wayOf}
+use Rattle.patterns.specs.Kinds.{isWay, hasMatrix, hasKernel, isKind, isOrdered, isDiffusion}
+use Rattle.lists.proofs.Computed.{from, agree}
 
 named : (l : List Dither) (k : ℕ) → k < length l → Known (getD l k Off) ≡ getD (map Known l) k Unknown
 named [] k h = absurd (not-suc-le-zero h)
@@ -34,7 +34,8 @@ unfolding wayOf
 way-above k h = rw (kind-above k h)
 
 -- what a way gives is told by the kind's number
-pub by-number : {A : Type 0} (f : Way → A) (g : ℕ → A) → from (λ k. f (wayOf k)) 0 11 ≡ from g 0 11 → ((k : ℕ) → 10 < k → f none ≡ g k) → (k : ℕ) → f (wayOf k) ≡ g k
+pub by-number : {A : Type 0} (f : Way → A) (g : ℕ → A) → from (λ k. f (wayOf k)) 0 11 ≡ from g 0 11 → ((k : ℕ) → 10 < k → f none ≡ g k) → (k : ℕ)
+    → f (wayOf k) ≡ g k
 by-number f g e above k = go (ltb k 11) (ltb→lt k 11) (nltb→le k 11)
   where
     go : (b : Bool) → (T b → k < 11) → (T (not b) → 11 ≤ k) → f (wayOf k) ≡ g k
@@ -57,12 +58,7 @@ pub diffusion-is : (k : ℕ) → isDiffusion k ≡ (eqb k 9 || eqb k 10)
 unfolding isDiffusion wayOf kindOf
 diffusion-is k = by-number hasKernel (λ k. eqb k 9 || eqb k 10) refl (λ k h. simp (ne-eqb k 9 (λ e. omega arith), ne-eqb k 10 (λ e. omega arith))) k
 
-pub kernel-is : (k : ℕ) → kernelOf k ≡ cond (eqb k 9) atkinson (cond (eqb k 10) floydSteinberg [])
-unfolding kernelOf wayOf kindOf
-kernel-is k = by-number kernelIn (λ k. cond (eqb k 9) atkinson (cond (eqb k 10) floydSteinberg [])) refl (λ k h. simp (ne-eqb k 9 (λ e. omega arith), ne-eqb k 10 (λ e. omega arith))) k
-
 -- the way of a kind that has a matrix
-
 pub ordered-way : (k : ℕ) → T (isOrdered k) → (m : List (List ℕ)) × (n : ℕ) × (wayOf k ≡ ordered m n)
 unfolding isOrdered
 ordered-way k h = go (wayOf k) h
@@ -70,5 +66,5 @@ ordered-way k h = go (wayOf k) h
     go : (w : Way) → T (hasMatrix w) → (m : List (List ℕ)) × (n : ℕ) × (w ≡ ordered m n)
     go plain h = absurd h
     go (ordered m n) h = (m, n, refl)
-    go (diffused k) h = absurd h
+    go (diffused k l) h = absurd h
     go none h = absurd h

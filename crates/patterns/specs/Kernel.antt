@@ -1,7 +1,7 @@
 -- Kernels of error diffusion, and where a pixel's sends arrive. Definitions only.
 -- Written from document 01, "Diffusion runs row by row, left to right": which pixels get how many sixteenths, in the source's order of
 -- targets, and "Targets outside the picture are dropped".
-use Prim.Native.Nat.{ℕ, _+_, _-_, _*_, _/_, _%_, _≤_}
+use Prim.Native.Nat.{ℕ, _+_, _*_, _/_, _%_, _≤_}
 use mathlib.Core.Path.{_≡_}
 use mathlib.Core.Bool.{Bool, true, false, cond, _&&_, _||_}
 use mathlib.Core.List.{List, [], _∷_, map}
@@ -39,10 +39,6 @@ floydSteinberg = target (pos 1) 0 7 ∷ target (negsuc 0) 1 3 ∷ target (pos 0)
 unfoldable pub total : List Target → ℕ
 total [] = 0
 total (t ∷ k) = t .weight + total k
-
--- and what it holds back
-unfoldable pub heldBack : List Target → ℕ
-heldBack k = 16 - total k
 
 -- above 0
 unfoldable pub positive : ℤ → Bool

@@ -1,12 +1,13 @@
 -- The eleven kinds of dithering by number, and how each of them dithers. Definitions only.
 -- Written from document 01: "Dither kinds are numbered 0 to 10 in the source's order"; "n being 4, 16, 64 for Bayer, 2 for checker and
--- lines, 4 for stipples"; the diffusion paragraph, for the kernels; and "Bounds and replies", for the error cells.
+-- lines, 4 for stipples"; the diffusion paragraph, for the kernels; "Atkinson's held-back weight of 4"; and "Bounds and replies", for the error cells.
 use Prim.Native.Nat.{ℕ, _*_}
 use mathlib.Core.Bool.{Bool, true, false, cond}
 use mathlib.Core.List.{List, [], _∷_, map}
 use lib.ListN.{getD}
 use Rattle.patterns.specs.declared.Dither.{Dither}
-use Rattle.patterns.specs.declared.Dither.the-variants.{Off, Bayer2x2, Bayer4x4, Bayer8x8, Checker, StippleV, StippleH, LineV, LineH, Atkinson, FloydSteinberg}
+use Rattle.patterns.specs.declared.Dither.the-variants.{Off, Bayer2x2, Bayer4x4, Bayer8x8, Checker}
+use Rattle.patterns.specs.declared.Dither.the-variants.{StippleV, StippleH, LineV, LineH, Atkinson, FloydSteinberg}
 use Rattle.patterns.specs.declared.Kind.{Kind}
 use Rattle.patterns.specs.declared.Kind.the-variants.{Known, Unknown}
 use Rattle.patterns.specs.Matrices.{bayer2x2, bayer4x4, bayer8x8, checker, stippleV, stippleH, lineV, lineH}
@@ -20,14 +21,16 @@ kinds = Off ∷ Bayer2x2 ∷ Bayer4x4 ∷ Bayer8x8 ∷ Checker ∷ StippleV ∷ 
 unfoldable pub kindOf : ℕ → Kind
 kindOf k = getD (map Known kinds) k Unknown
 
--- how a kind dithers: not at all, by a matrix and its n, or by a kernel; where there is no kind, there is no way
+-- how a kind dithers: not at all, by a matrix and its n, or by a kernel and the sixteenths of a residual that it holds back; where there is no kind,
+-- there is no way
 pub data Way : Type 0 where
   plain : Way
   ordered : List (List ℕ) → ℕ → Way
-  diffused : List Target → Way
+  diffused : List Target → ℕ → Way
   none : Way
 
--- the table: which matrix and which n a kind has, or which kernel
+-- the table: which matrix and which n a kind has, or which kernel and how much it holds back (with the kernel's weights that is all sixteen
+-- sixteenths: proofs/Kernels)
 abbrev pub way : Dither → Way
 way Off = plain
 way Bayer2x2 = ordered bayer2x2 4
@@ -38,8 +41,8 @@ way StippleV = ordered stippleV 4
 way StippleH = ordered stippleH 4
 way LineV = ordered lineV 2
 way LineH = ordered lineH 2
-way Atkinson = diffused atkinson
-way FloydSteinberg = diffused floydSteinberg
+way Atkinson = diffused atkinson 4
+way FloydSteinberg = diffused floydSteinberg 0
 
 -- the same of what a number stands for
 abbrev pub wayIn : Kind → Way
@@ -55,29 +58,36 @@ wayOf k = wayIn (kindOf k)
 abbrev pub isWay : Way → Bool
 isWay plain = true
 isWay (ordered m n) = true
-isWay (diffused k) = true
+isWay (diffused k h) = true
 isWay none = false
 
 -- it goes by a matrix
 abbrev pub hasMatrix : Way → Bool
 hasMatrix plain = false
 hasMatrix (ordered m n) = true
-hasMatrix (diffused k) = false
+hasMatrix (diffused k h) = false
 hasMatrix none = false
 
 -- it goes by a kernel
 abbrev pub hasKernel : Way → Bool
 hasKernel plain = false
 hasKernel (ordered m n) = false
-hasKernel (diffused k) = true
+hasKernel (diffused k h) = true
 hasKernel none = false
 
 -- its kernel
 abbrev pub kernelIn : Way → List Target
 kernelIn plain = []
 kernelIn (ordered m n) = []
-kernelIn (diffused k) = k
+kernelIn (diffused k h) = k
 kernelIn none = []
+
+-- what it holds back
+abbrev pub heldIn : Way → ℕ
+heldIn plain = 0
+heldIn (ordered m n) = 0
+heldIn (diffused k h) = h
+heldIn none = 0
 
 -- ---- the same of a kind's number (which numbers these are: proofs/Numbers)
 -- there is a kind with the number; 1 is said where there is none
@@ -95,6 +105,10 @@ isDiffusion k = hasKernel (wayOf k)
 -- a diffusion kind's kernel; another kind has no target
 unfoldable pub kernelOf : ℕ → List Target
 kernelOf k = kernelIn (wayOf k)
+
+-- the sixteenths of a residual that a diffusion kind holds back; another kind has no residual
+unfoldable pub heldOf : ℕ → ℕ
+heldOf k = heldIn (wayOf k)
 
 -- "error cells are three f32 a pixel for diffusion, else none"
 unfoldable pub cellsNeeded : ℕ → ℕ → ℕ

@@ -1,11 +1,13 @@
 // Thresholds and kernels: the kinds of dithering by number, the eight threshold matrices, and the two kernels of error
-// diffusion. Names and order are those of src/dither.rs.
+// diffusion. The kinds, the matrices and `ordered_threshold` are named as in src/dither.rs, and the kinds and each
+// kernel's targets stand in its order. There a kernel is one list of tuples and a kind has no number; here a kernel is
+// three arrays side by side, and all that goes by a kind's number is added.
 ghost use mathlib.Core.Path.{_≡_};
 ghost use Prim.Native.Nat.{_≤_};
 ghost use lib.Dec.{T};
 ghost use Rattle.patterns.specs.Kernel.{Arrays, atkinson, floydSteinberg};
 ghost use Rattle.patterns.specs.Kinds.{kindOf, isKind, isOrdered, isDiffusion, cellsNeeded};
-ghost use Rattle.patterns.specs.Thresholds.{share, entryIn, thresholdAt, thresholdOf};
+ghost use Rattle.patterns.specs.Thresholds.{thresholdFrom, entryIn, thresholdAt, OrderedThresholdAnswered};
 
 // A kind of dithering.
 pub enum Dither {
@@ -130,29 +132,29 @@ const LINE_V_MATRIX: [[u8; 2]; 2] = [[1, 0], [1, 0]];
 const LINE_H_MATRIX: [[u8; 2]; 2] = [[1, 1], [0, 0]];
 
 // The threshold of an entry.
-fn share_of(entry: u8, n: f32) -> f32
-    ensures { λ r. ⌜ r ≡ share entry n ⌝ }
+fn threshold_from(entry: u8, n: f32) -> f32
+    ensures { λ r. ⌜ r ≡ thresholdFrom entry n ⌝ }
 {
     (entry as f32 + 0.5) / n
 }
 
 // The threshold at row y and column x of a matrix, both reduced to its size.
 fn threshold_2x2(matrix: [[u8; 2]; 2], n: f32, x: u32, y: u32) -> f32
-    ensures { λ r. ⌜ r ≡ share (entryIn 2 matrix x y) n ⌝ }
+    ensures { λ r. ⌜ r ≡ thresholdFrom (entryIn 2 matrix x y) n ⌝ }
 {
-    share_of(matrix[(y % 2) as usize][(x % 2) as usize], n)
+    threshold_from(matrix[(y % 2) as usize][(x % 2) as usize], n)
 }
 
 fn threshold_4x4(matrix: [[u8; 4]; 4], n: f32, x: u32, y: u32) -> f32
-    ensures { λ r. ⌜ r ≡ share (entryIn 4 matrix x y) n ⌝ }
+    ensures { λ r. ⌜ r ≡ thresholdFrom (entryIn 4 matrix x y) n ⌝ }
 {
-    share_of(matrix[(y % 4) as usize][(x % 4) as usize], n)
+    threshold_from(matrix[(y % 4) as usize][(x % 4) as usize], n)
 }
 
 fn threshold_8x8(matrix: [[u8; 8]; 8], n: f32, x: u32, y: u32) -> f32
-    ensures { λ r. ⌜ r ≡ share (entryIn 8 matrix x y) n ⌝ }
+    ensures { λ r. ⌜ r ≡ thresholdFrom (entryIn 8 matrix x y) n ⌝ }
 {
-    share_of(matrix[(y % 8) as usize][(x % 8) as usize], n)
+    threshold_from(matrix[(y % 8) as usize][(x % 8) as usize], n)
 }
 
 // What `ordered_threshold` answers.
@@ -163,7 +165,7 @@ pub enum Thresholded {
 
 // The threshold of a kind at column x and row y; 1 for a number above 10; 9 for a kind that has no matrix.
 pub fn ordered_threshold(kind: u32, x: u32, y: u32) -> Thresholded
-    ensures { λ r. ⌜ r ≡ thresholdOf kind x y ⌝ }
+    ensures { λ r. ⌜ OrderedThresholdAnswered kind x y r ⌝ }
 {
     let Kind::Known(dither) = dither_of(kind) else {
         return Thresholded::Refused(1);

@@ -22,7 +22,9 @@ linear-to-oklab-requires c κs = record {
 }
 
 returns : tie.Need-returns
-returns c = converted _ _ _ _ _ (c .before .before .before .linear-at .ensures) (c .before .before .linear-at2 .ensures) (c .before .linear-at3 .ensures) (c .linear-to-oklab .ensures)
+returns c =
+    converted _ _ _ _ _ (c .before .before .before .linear-at .ensures) (c .before .before .linear-at2 .ensures) (c .before .linear-at3 .ensures)
+    (c .linear-to-oklab .ensures)
 
 pub to-oklab-with-spec : {M : Type 1} → statement M
 to-oklab-with-spec =

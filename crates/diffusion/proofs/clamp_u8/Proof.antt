@@ -18,13 +18,17 @@ returns : tie.Need-returns
 returns c = below-zero (c .before .args .n) (ap (λ (z : ℤ). ltZ z (pos 0)) (sym (toZ-ofZ w32 (c .before .args .n) (c .before .fits .n))) ∙ c .if1 .taken)
 
 cast-r : tie.Need-cast-r
-cast-r c = (not-below-zero (toZ w32 (ofZ w32 (c .before .args .n))) (c .if1 .left), record { fits = rw (toZ-ofZ w32 (c .before .args .n) (c .before .fits .n)) (omega (arith, c .before .pre)) })
+cast-r c = (
+  not-below-zero (toZ w32 (ofZ w32 (c .before .args .n))) (c .if1 .left),
+  record { fits = rw (toZ-ofZ w32 (c .before .args .n) (c .before .fits .n)) (omega (arith, c .before .pre)) },
+)
 
 add-r : tie.Need-add-r
 add-r c = record { fits = rw (toZ-ofZ w32 (c .before .args .n) (c .before .fits .n)) (omega (arith, c .before .pre)) }
 
 -- of a number that is not negative: its size, rounded and cut at 255, is the clipped one
-clipped : (z : ℤ) → SFits w32 z → ltZ (toZ w32 (ofZ w32 z)) (pos 0) ≡ false → {r : ℕ} → r ≡ min ((natAbs (toZ w32 (ofZ w32 z)) + 8) / 16) 255 → r ≡ clip (halves z)
+clipped : (z : ℤ) → SFits w32 z → ltZ (toZ w32 (ofZ w32 z)) (pos 0) ≡ false → {r : ℕ} → r ≡ min ((natAbs (toZ w32 (ofZ w32 z)) + 8) / 16) 255
+    → r ≡ clip (halves z)
 clipped z f l e =
     let same = toZ-ofZ w32 z f in
     e ∙ ap (λ (y : ℤ). min ((natAbs y + 8) / 16) 255) same ∙ above-zero z (not-below-zero z (ap (λ (y : ℤ). ltZ y (pos 0)) (sym same) ∙ l))

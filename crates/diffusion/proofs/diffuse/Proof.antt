@@ -15,7 +15,8 @@ use Rattle.floats.specs.Cells.{Cells}
 use Rattle.patterns.specs.Kernel.{Target, place, Arrays}
 use Rattle.diffusion.specs.Scatter.{send, sends}
 use Rattle.diffusion.specs.Sends.{Residuals}
-use Rattle.diffusion.proofs.Targets.{in-rows, in-weights, none, ratio-at, column-near, column-back, row-near, weight-some, weight-small, next, residuals-small, sends-small}
+use Rattle.diffusion.proofs.Targets.{in-rows, in-weights, none, ratio-at, column-near, column-back}
+use Rattle.diffusion.proofs.Targets.{row-near, weight-some, weight-small, next, residuals-small, sends-small}
 use Rattle.diffusion.proofs.diffuse.Statement.{statement}
 use Rattle.diffusion.proofs.diffuse.Tie as tie
 
@@ -82,7 +83,9 @@ module _ (c : tie.In-loop Inv-loop μ-loop) (k : List Target) (A : ArraysOf (sta
     cells-here : Cells 8160 (c .before .loop .cells) (now-sent m)
     cells-here = record {
       is = c .before .loop .inv .2 k zs rs A C R;
-      small = sends-small zs rs k (s .args .width) (s .args .height) (s .args .y * s .args .width + s .args .x) m (s .args .width * s .args .height) (sym (ap length (C .is) ∙ length-map zs sixteenths) ∙ s .pre .1) (C .small) (residuals-small rs _ _ _ R) (A .whole);
+      small =
+          sends-small zs rs k (s .args .width) (s .args .height) (s .args .y * s .args .width + s .args .x) m (s .args .width * s .args .height)
+          (sym (ap length (C .is) ∙ length-map zs sixteenths) ∙ s .pre .1) (C .small) (residuals-small rs _ _ _ R) (A .whole);
     }
 
     ratio-is : getD (s .args .ratio .now) m nan ≡ sixteenths (pos w)
@@ -94,8 +97,11 @@ module _ (c : tie.In-loop Inv-loop μ-loop) (k : List Target) (A : ArraysOf (sta
     few : w ≤ 16
     few = weight-small m k (s .args .dx .now) (s .args .dy .now) (s .args .ratio .now) A (c .loop-test .taken)
 
-    one-more : send (now-sent m) rs (place (s .args .width) (s .args .height) (pos (s .args .x) +ℤ toZ w32 (ofZ w32 (getD (s .args .dx .now) m (pos 0)))) (s .args .y + getD (s .args .dy .now) m 0)) w ≡ now-sent (m + 1)
-    one-more = rw back (next m k (s .args .dx .now) (s .args .dy .now) (s .args .ratio .now) A (c .loop-test .taken) (s .args .width) (s .args .height) (s .args .x) (s .args .y) zs rs (s .pre .0 .column))
+    one-more : send (now-sent m) rs (place (s .args .width) (s .args .height) (pos (s .args .x) +ℤ toZ w32 (ofZ w32 (getD (s .args .dx .now) m (pos 0))))
+        (s .args .y + getD (s .args .dy .now) m 0)) w ≡ now-sent (m + 1)
+    one-more =
+        rw back (next m k (s .args .dx .now) (s .args .dy .now) (s .args .ratio .now) A (c .loop-test .taken) (s .args .width) (s .args .height) (s .args .x)
+        (s .args .y) zs rs (s .pre .0 .column))
 
 shared-slice-read-send-target : tie.Need-shared-slice-read-send-target Inv-loop μ-loop
 shared-slice-read-send-target c =
@@ -129,7 +135,8 @@ loop-again c =
       omega arith,
       c .before .before .send-target .kept .0 ∙ l .before .loop .inv .1,
       λ k zs rs A C R.
-          c .before .before .send-target .ensures (now-sent l k A zs rs C R (m l k A)) rs (w l k A zs rs C R) (cells-here l k A zs rs C R) R (ratio-is l k A zs rs C R) (some l k A zs rs C R) (few l k A zs rs C R)
+          c .before .before .send-target .ensures (now-sent l k A zs rs C R (m l k A)) rs (w l k A zs rs C R) (cells-here l k A zs rs C R) R
+          (ratio-is l k A zs rs C R) (some l k A zs rs C R) (few l k A zs rs C R)
           ∙ ap (map sixteenths) (one-more l k A zs rs C R),
     )
 
@@ -137,11 +144,13 @@ same-length : tie.Need-same-length Inv-loop μ-loop
 same-length c = c .before .loop .inv .1
 
 returns : tie.Need-returns Inv-loop μ-loop
-returns c k zs rs A C R =
+returns c k A zs rs C R =
     let s = c .before .before .before .before .before in
-    let all : length k ≤ c .before .loop .m = subst (λ (n : ℕ). n ≤ c .before .loop .m) (ap length (A .columns) ∙ length-map k (λ t. t .dx)) (c .loop-test .left) in
+    let all : length k ≤ c .before .loop .m =
+    subst (λ (n : ℕ). n ≤ c .before .loop .m) (ap length (A .columns) ∙ length-map k (λ t. t .dx)) (c .loop-test .left) in
     c .before .loop .inv .2 k zs rs A C R
-    ∙ ap (λ (v : List Target). map sixteenths (sends zs rs v (s .args .width) (s .args .height) (s .args .y * s .args .width + s .args .x))) (take-all (c .before .loop .m) k all)
+    ∙ ap (λ (v : List Target). map sixteenths (sends zs rs v (s .args .width) (s .args .height) (s .args .y * s .args .width + s .args .x)))
+    (take-all (c .before .loop .m) k all)
 
 pub diffuse-spec : {M : Type 1} → statement M
 diffuse-spec =

@@ -1,78 +1,130 @@
--- `diffusion::diffuse_kind` meets its contract: `diffuse` by the kernel of the kind. Assumes nothing.
+-- `diffusion::diffuse_kind` meets its contract: an arm's kind has in the table the kernel by which the arm sends; where a kind has no kernel, or there
+-- is no kind, nothing is sent. Assumes nothing.
 use borrow.Author.Needs.{needs}
-use mathlib.Core.Path.{ap, _∙_}
-use mathlib.Core.List.{List, map}
-use Prim.Native.Nat.{_+_, _*_}
-use Rattle.floats.specs.Over.{sixteenths}
-use Rattle.patterns.specs.Kernel.{Target, atkinson, floydSteinberg}
+use mathlib.Core.Path.{_≡_, refl, sym, ap, _∙_, subst}
+use mathlib.Core.List.{List, [], _∷_}
+use Prim.Native.Nat.{ℕ, _+_, _*_}
+use denote.Enum.Declared.{tagOf}
+use types.Run.{OneOf, miss}
+use lib.Ieee.{Float}
+use Rattle.patterns.specs.declared.Dither.{Dither}
+use Rattle.patterns.specs.declared.Dither.the-variants.{Off, Bayer2x2, Bayer4x4, Bayer8x8, Checker, StippleV, StippleH, LineV, LineH, Atkinson, FloydSteinberg}
+use Rattle.patterns.specs.declared.Kind.{Kind}
+use Rattle.patterns.specs.Kernel.{Target}
+use Rattle.patterns.specs.Kinds.{way, wayIn, kernelIn, kernelOf}
+use Rattle.patterns.proofs.Dither.{the-type}
+use Rattle.patterns.proofs.Kernels.{kernel-in}
 use Rattle.diffusion.specs.Scatter.{sends}
-use Rattle.diffusion.proofs.Kernels.{kernel-nine, kernel-ten}
+use Rattle.diffusion.specs.Sends.{PassedOn}
 use Rattle.diffusion.proofs.diffuse_kind.Statement.{statement}
 use Rattle.diffusion.proofs.diffuse_kind.Tie as tie
 
-atkinson-kernel-requires : tie.Need-atkinson-kernel-requires
-atkinson-kernel-requires c κs = search needs
+-- ---- what is passed on by a kernel is so by the kind's, where the two are the same
+abbrev Sent : tie.Start → List Target → List Float → Type 0
+Sent s k left =
+    PassedOn k (s .args .width) (s .args .height) (s .args .y * s .args .width + s .args .x) (s .args .r) (s .args .g) (s .args .b) (s .args .cells .now) left
 
-slice-aggregate-diffuse : tie.Need-slice-aggregate-diffuse
-slice-aggregate-diffuse c = search needs
+by-kind : (s : tie.Start) (k : List Target) (left : List Float) → k ≡ kernelOf (s .args .kind) → Sent s k left → Sent s (kernelOf (s .args .kind)) left
+by-kind s k left e h = subst (λ (l : List Target). Sent s l left) e h
 
-slice-aggregate-diffuse-2 : tie.Need-slice-aggregate-diffuse-2
-slice-aggregate-diffuse-2 c = search needs
+-- no target, no send
+nothing : (s : tie.Start) → Sent s [] (s .args .cells .now)
+unfolding sends
+nothing s zs rs C R = C .is
 
-slice-aggregate-diffuse-3 : tie.Need-slice-aggregate-diffuse-3
-slice-aggregate-diffuse-3 c = search needs
+-- ---- a known kind
+abbrev dither : tie.After-known-told → Dither
+dither p = p .before .dither .given .0 .0
 
-diffuse-requires : tie.Need-diffuse-requires
-diffuse-requires c κs = search needs
+abbrev start : tie.After-known-told → tie.Start
+start p = p .before .before .before .before .before
 
-floyd-steinberg-kernel-requires : tie.Need-floyd-steinberg-kernel-requires
-floyd-steinberg-kernel-requires c κs = search needs
+known : (p : tie.After-known-told) → kernelIn (way (dither p)) ≡ kernelOf (start p .args .kind)
+known p = ap (λ (k : Kind). kernelIn (wayIn k)) (sym (p .before .dither .given .1)) ∙ kernel-in _ _ (p .before .before .before .dither-of .ensures)
 
-slice-aggregate-diffuse-4 : tie.Need-slice-aggregate-diffuse-4
-slice-aggregate-diffuse-4 c = search needs
+-- in an arm with a kernel it is that of the table
+arm : (p : tie.After-known-told) (d : Dither) → dither p ≡ d → kernelIn (way d) ≡ kernelOf (start p .args .kind)
+arm p d e = ap (λ (d : Dither). kernelIn (way d)) (sym e) ∙ known p
 
-slice-aggregate-diffuse-5 : tie.Need-slice-aggregate-diffuse-5
-slice-aggregate-diffuse-5 c = search needs
+-- the last arm's kinds have none
+abbrev others : List ℕ
+others = 0 ∷ 1 ∷ 2 ∷ 3 ∷ 4 ∷ 5 ∷ 6 ∷ 7 ∷ 8 ∷ []
 
-slice-aggregate-diffuse-6 : tie.Need-slice-aggregate-diffuse-6
-slice-aggregate-diffuse-6 c = search needs
+without-kernel : (d : Dither) → OneOf others (tagOf the-type d) → [] ≡ kernelIn (way d)
+without-kernel Off h = refl
+without-kernel Bayer2x2 h = refl
+without-kernel Bayer4x4 h = refl
+without-kernel Bayer8x8 h = refl
+without-kernel Checker h = refl
+without-kernel StippleV h = refl
+without-kernel StippleH h = refl
+without-kernel LineV h = refl
+without-kernel LineH h = refl
+without-kernel Atkinson h = absurd (miss others 9 tt h)
+without-kernel FloydSteinberg h = absurd (miss others 10 tt h)
 
-diffuse-requires-2 : tie.Need-diffuse-requires-2
-diffuse-requires-2 c κs = search needs
+dither-of-requires : tie.Need-dither-of-requires
+dither-of-requires c κs = search needs
+
+enum-known-dither : tie.Need-enum-known-dither
+enum-known-dither c = search needs
+
+enum-told : tie.Need-enum-told
+enum-told c = search needs
+
+returns : tie.Need-returns
+returns c =
+    let s = c .before .before .before .before in
+    by-kind s [] (s .args .cells .now)
+    (ap (λ (k : Kind). kernelIn (wayIn k)) (sym (c .enum-told .given .1)) ∙ kernel-in _ _ (c .before .before .dither-of .ensures)) (nothing s)
+
+enum-told-2 : tie.Need-enum-told-2
+enum-told-2 c = search needs
+
+diffuse-atkinson-requires : tie.Need-diffuse-atkinson-requires
+diffuse-atkinson-requires c κs = search needs
+
+enum-told-3 : tie.Need-enum-told-3
+enum-told-3 c = search needs
+
+diffuse-floyd-steinberg-requires : tie.Need-diffuse-floyd-steinberg-requires
+diffuse-floyd-steinberg-requires c κs = search needs
 
 same-length : tie.Need-same-length
 same-length c = search needs
 
-returns : tie.Need-returns
-returns c zs rs C R =
-    let s = c .before .before .before .before .before .before .before .before .before .before .before .before .before in
-    c .before .before .diffuse .ensures atkinson zs rs (c .before .before .before .before .before .before .before .before .before .before .atkinson-kernel .ensures) C R
-    ∙ ap (λ (k : List Target). map sixteenths (sends zs rs k (s .args .width) (s .args .height) (s .args .y * s .args .width + s .args .x))) (kernel-nine (s .args .kind) (c .before .before .before .before .before .before .before .before .before .before .before .if1 .taken))
+returns-2 : tie.Need-returns-2
+returns-2 c =
+    let p = c .before .before .before .before .before .before in
+    by-kind (start p) _ _ (arm p Atkinson (c .before .before .before .before .enum-told2 .given .1)) (c .before .before .diffuse-atkinson .ensures)
 
 same-length-2 : tie.Need-same-length-2
 same-length-2 c = search needs
 
-returns-2 : tie.Need-returns-2
-returns-2 c zs rs C R =
-    let s = c .before .before .before .before .before .before .before .before .before .before .before .before .before in
-    c .before .before .diffuse2 .ensures floydSteinberg zs rs (c .before .before .before .before .before .before .before .before .before .before .floyd-steinberg-kernel .ensures) C R
-    ∙ ap (λ (k : List Target). map sixteenths (sends zs rs k (s .args .width) (s .args .height) (s .args .y * s .args .width + s .args .x))) (kernel-ten (s .args .kind) (s .pre .0) (c .before .before .before .before .before .before .before .before .before .before .before .if1 .left))
+returns-3 : tie.Need-returns-3
+returns-3 c =
+    let p = c .before .before .before .before .before .before in
+    by-kind (start p) _ _ (arm p FloydSteinberg (c .before .before .before .before .enum-told3 .given .1)) (c .before .before .diffuse-floyd-steinberg .ensures)
+
+returns-4 : tie.Need-returns-4
+returns-4 c =
+    let p = c .before in
+    by-kind (start p) [] _ (without-kernel (dither p) (c .match2 .keys3) ∙ known p) (nothing (start p))
 
 pub diffuse-kind-spec : {M : Type 1} → statement M
 diffuse-kind-spec =
     tie.close
     (tie.spec
-    atkinson-kernel-requires
-    slice-aggregate-diffuse
-    slice-aggregate-diffuse-2
-    slice-aggregate-diffuse-3
-    diffuse-requires
-    floyd-steinberg-kernel-requires
-    slice-aggregate-diffuse-4
-    slice-aggregate-diffuse-5
-    slice-aggregate-diffuse-6
-    diffuse-requires-2
-    same-length
+    dither-of-requires
+    enum-known-dither
+    enum-told
     returns
+    enum-told-2
+    diffuse-atkinson-requires
+    enum-told-3
+    diffuse-floyd-steinberg-requires
+    same-length
+    returns-2
     same-length-2
-    returns-2)
+    returns-3
+    returns-4)

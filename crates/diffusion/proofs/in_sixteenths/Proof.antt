@@ -12,10 +12,12 @@ int-to-float-result : tie.Need-int-to-float-result
 int-to-float-result c = search needs
 
 float-to-int-result : tie.Need-float-to-int-result
-float-to-int-result c = cell-cast (c .before .before .args .source) (c .before .before .args .cell) (c .before .before .pre .0) (search needs) (c .before .before .pre .1) .0
+float-to-int-result c =
+    cell-cast (c .before .before .args .source) (c .before .before .args .cell) (c .before .before .pre .0) (search needs) (c .before .before .pre .1) .0
 
 returns : tie.Need-returns
-returns c n h = toZ-ofZ w32 _ (record { sfits = toSigned-in 31 _ }) ∙ cell-cast (c .before .before .args .source) (c .before .before .args .cell) n (search needs) h .1
+returns c n h =
+    toZ-ofZ w32 _ (record { sfits = toSigned-in 31 _ }) ∙ cell-cast (c .before .before .args .source) (c .before .before .args .cell) n (search needs) h .1
 
 pub in-sixteenths-spec : {M : Type 1} → statement M
 in-sixteenths-spec = tie.close (tie.spec int-to-float-result float-to-int-result returns)

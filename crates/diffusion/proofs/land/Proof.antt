@@ -47,15 +47,32 @@ mul-t12 : tie.Need-mul-t12
 mul-t12 c = record { fits = omega (arith, row-size _ _ _ (c .before .before .before .pre .0 .wide) (c .before .before .before .pre .0 .high) (c .if3 .left)) }
 
 add-t13 : tie.Need-add-t13
-add-t13 c = record { fits = omega (arith, column-size (c .before .before .before), row-size _ _ _ (c .before .before .before .pre .0 .wide) (c .before .before .before .pre .0 .high) (c .if3 .left)) }
+add-t13 c =
+    record {
+      fits = omega (
+        arith,
+        column-size (c .before .before .before),
+        row-size _ _ _ (c .before .before .before .pre .0 .wide)
+            (c .before .before .before .pre .0 .high) (c .if3 .left),
+      );
+    }
 
 cast-t14 : tie.Need-cast-t14
-cast-t14 c = record { fits = omega (arith, column-size (c .before .before .before), row-size _ _ _ (c .before .before .before .pre .0 .wide) (c .before .before .before .pre .0 .high) (c .if3 .left)) }
+cast-t14 c =
+    record {
+      fits = omega (
+        arith,
+        column-size (c .before .before .before),
+        row-size _ _ _ (c .before .before .before .pre .0 .wide)
+            (c .before .before .before .pre .0 .high) (c .if3 .left),
+      );
+    }
 
 returns-4 : tie.Need-returns-4
 returns-4 c =
     let s = c .before .before .before in
-    carried s (within _ _ (column (s .args .x) (s .args .dx)) _ (not-below-zero (column (s .args .x) (s .args .dx)) (c .before .before .if1 .left)) (c .before .if2 .left) (c .if3 .left))
+    carried s (within _ _ (column (s .args .x) (s .args .dx)) _ (not-below-zero (column (s .args .x) (s .args .dx)) (c .before .before .if1 .left))
+    (c .before .if2 .left) (c .if3 .left))
 
 pub land-spec : {M : Type 1} → statement M
 land-spec =

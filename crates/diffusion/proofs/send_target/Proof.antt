@@ -26,7 +26,8 @@ send-three-requires : tie.Need-send-three-requires
 send-three-requires c κs =
     let s = c .before .before .before .before .before .before in
     let i = c .before .before .i .given .0 .0 in
-    let there : i < s .args .width * s .args .height = place-inside _ _ _ _ i (sym (c .before .before .before .before .land .ensures) ∙ ap placeOf (c .before .before .i .given .1)) in
+    let there : i < s .args .width * s .args .height =
+    place-inside _ _ _ _ i (sym (c .before .before .before .before .land .ensures) ∙ ap placeOf (c .before .before .i .given .1)) in
     let area = mul-le-mul (s .pre .0 .wide) (s .pre .0 .high) in
     (omega (arith, s .pre .1), omega arith)
 

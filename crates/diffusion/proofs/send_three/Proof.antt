@@ -35,9 +35,12 @@ returns c zs rs w h R q W L =
     let i = c .before .before .before .before .before .before .before .before .before .before .before .before .before .args .i in
     let once = more zs (3 * i) (rs 0 *ℤ pos w) in
     let twice = more once (3 * i + 1) (rs 1 *ℤ pos w) in
-    let first = c .before .before .before .before .before .before .before .before .before .before .send-one .ensures zs (rs 0) w (wider 8160 65536 _ zs (lit≤ tt) h) (R .red) q W L in
+    let first =
+    c .before .before .before .before .before .before .before .before .before .before .send-one .ensures zs (rs 0) w (wider 8160 65536 _ zs (lit≤ tt) h)
+    (R .red) q W L in
     let after = cells-more 8160 _ _ zs (3 * i) (rs 0) w h (R .red .small) L first in
-    let second = c .before .before .before .before .before .before .send-one2 .ensures once (rs 1) w (wider 12240 65536 _ once (lit≤ tt) after) (R .green) q W L in
+    let second =
+    c .before .before .before .before .before .before .send-one2 .ensures once (rs 1) w (wider 12240 65536 _ once (lit≤ tt) after) (R .green) q W L in
     let after2 = cells-more 12240 _ _ once (3 * i + 1) (rs 1) w after (R .green .small) L second in
     c .before .before .send-one3 .ensures twice (rs 2) w (wider 16320 65536 _ twice (lit≤ tt) after2) (R .blue) q W L
 

@@ -1,5 +1,6 @@
 -- `exports::badge_oklab_sqdist` meets its contract: the answer's case decides the number and what is written. Assumes nothing.
 use mathlib.Core.Path.{_∙_, sym}
+use Rattle.replies.proofs.AnswerLaws.{answered}
 use Rattle.exports.specs.Answers.{distanceLeft}
 use Rattle.exports.proofs.AnswerLaws.{left-by}
 use borrow.Author.Needs.{needs}
@@ -19,10 +20,10 @@ cast-result : tie.Need-cast-result
 cast-result c = search needs
 
 returns : tie.Need-returns
-returns c = left-by (distanceLeft _) (sym (c .before .before .before .oklab-sqdist .ensures) ∙ c .before .d .given .1)
+returns c = left-by (distanceLeft _) (sym (answered _ _ _ (c .before .before .before .oklab-sqdist .ensures)) ∙ c .before .d .given .1)
 
 returns-2 : tie.Need-returns-2
-returns-2 c = left-by (distanceLeft _) (sym (c .before .before .before .oklab-sqdist .ensures) ∙ c .before .number .given .1)
+returns-2 c = left-by (distanceLeft _) (sym (answered _ _ _ (c .before .before .before .oklab-sqdist .ensures)) ∙ c .before .number .given .1)
 
 pub badge-oklab-sqdist-spec : {M : Type 1} → statement M
 badge-oklab-sqdist-spec =

@@ -8,12 +8,12 @@ use Rattle.mixing.proofs.mix.Tie as tie
 int-to-float-result : tie.Need-int-to-float-result
 int-to-float-result c = search needs
 
-less-requires : tie.Need-less-requires
-less-requires c κs = search needs
+byte-minus-requires : tie.Need-byte-minus-requires
+byte-minus-requires c κs = search needs
 
 returns : tie.Need-returns
 unfolding mixOf byteF
 returns c = cc
 
 pub mix-spec : {M : Type 1} → statement M
-mix-spec = tie.close (tie.spec int-to-float-result less-requires returns)
+mix-spec = tie.close (tie.spec int-to-float-result byte-minus-requires returns)

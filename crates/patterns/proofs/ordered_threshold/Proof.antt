@@ -8,14 +8,14 @@ use lib.Ieee.{Float}
 use Prim.Native.Nat.{ℕ}
 use Rattle.floats.proofs.Sixteenths.{sixteen}
 use Rattle.patterns.specs.declared.Dither.{Dither}
-use Rattle.patterns.specs.declared.Dither.the-variants.{Off, Bayer2x2, Bayer4x4, Bayer8x8, Checker, StippleV, StippleH, LineV, LineH, Atkinson, FloydSteinberg}
+use Rattle.patterns.specs.declared.Dither.the-variants.{Off, Bayer2x2, Bayer4x4, Bayer8x8, Checker}
+use Rattle.patterns.specs.declared.Dither.the-variants.{StippleV, StippleH, LineV, LineH, Atkinson, FloydSteinberg}
 use Rattle.patterns.specs.declared.Kind.{Kind}
-use Rattle.patterns.specs.declared.Thresholded.{Thresholded}
 use Rattle.patterns.specs.declared.Thresholded.the-variants.{At, Refused}
 use Rattle.patterns.specs.Kinds.{way, wayIn}
-use Rattle.patterns.specs.Thresholds.{share, answerIn, thresholdOf}
+use Rattle.patterns.specs.Thresholds.{thresholdFrom, OrderedThresholdAnswered, thresholdOf}
 use Rattle.patterns.proofs.Dither.{the-type}
-use Rattle.patterns.proofs.Thresholds.{answer-is, two, four, sixty-four}
+use Rattle.patterns.proofs.Thresholds.{answerIn, answer-is, threshold-promised, two, four, sixty-four}
 use Rattle.patterns.proofs.ordered_threshold.Statement.{statement}
 use Rattle.patterns.proofs.ordered_threshold.Tie as tie
 
@@ -29,17 +29,18 @@ column p = p .before .before .before .before .args .x
 abbrev row : tie.After-known-told → ℕ
 row p = p .before .before .before .before .args .y
 
-abbrev Right : tie.After-known-told → Thresholded → Type 0
-Right p a = a ≡ thresholdOf (p .before .before .before .before .args .kind) (column p) (row p)
+abbrev kind : tie.After-known-told → ℕ
+kind p = p .before .before .before .before .args .kind
 
-known : (p : tie.After-known-told) → Right p (answerIn (way (dither p)) (column p) (row p))
+known : (p : tie.After-known-told) → answerIn (way (dither p)) (column p) (row p) ≡ thresholdOf (kind p) (column p) (row p)
 known p =
     ap (λ (k : Kind). answerIn (wayIn k) (column p) (row p)) (sym (p .before .dither .given .1))
     ∙ answer-is _ _ _ _ (p .before .before .before .dither-of .ensures)
 
 -- in an arm with a matrix the threshold is that of the table
-arm : (p : tie.After-known-told) (d : Dither) → dither p ≡ d → (t : Float) → At t ≡ answerIn (way d) (column p) (row p) → Right p (At t)
-arm p d e t a = a ∙ ap (λ (d : Dither). answerIn (way d) (column p) (row p)) (sym e) ∙ known p
+arm : (p : tie.After-known-told) (d : Dither) → dither p ≡ d → (t : Float) → At t ≡ answerIn (way d) (column p) (row p)
+    → OrderedThresholdAnswered (kind p) (column p) (row p) (At t)
+arm p d e t a = threshold-promised (kind p) (column p) (row p) (a ∙ ap (λ (d : Dither). answerIn (way d) (column p) (row p)) (sym e) ∙ known p)
 
 -- the last arm's kinds have no matrix
 abbrev unordered : List ℕ
@@ -68,7 +69,10 @@ enum-told : tie.Need-enum-told
 enum-told c = search needs
 
 returns : tie.Need-returns
-returns c = ap (λ (k : Kind). answerIn (wayIn k) (c .before .before .before .args .x) (c .before .before .before .args .y)) (sym (c .enum-told .given .1)) ∙ answer-is _ _ _ _ (c .before .before .dither-of .ensures)
+returns c =
+    let a = c .before .before .before .args in
+    threshold-promised (a .kind) (a .x) (a .y)
+    (ap (λ (k : Kind). answerIn (wayIn k) (a .x) (a .y)) (sym (c .enum-told .given .1)) ∙ answer-is _ _ _ _ (c .before .before .dither-of .ensures))
 
 enum-told-2 : tie.Need-enum-told-2
 enum-told-2 c = search needs
@@ -119,31 +123,49 @@ threshold-2x2-requires-6 : tie.Need-threshold-2x2-requires-6
 threshold-2x2-requires-6 c κs = search needs
 
 returns-2 : tie.Need-returns-2
-returns-2 c = arm (c .before .before .before) Bayer2x2 (c .before .enum-told2 .given .1) (c .threshold-2x2 .result) (ap At (c .threshold-2x2 .ensures ∙ ap (share _) four))
+returns-2 c =
+    arm (c .before .before .before) Bayer2x2 (c .before .enum-told2 .given .1) (c .threshold-2x2 .result)
+    (ap At (c .threshold-2x2 .ensures ∙ ap (thresholdFrom _) four))
 
 returns-3 : tie.Need-returns-3
-returns-3 c = arm (c .before .before .before) Bayer4x4 (c .before .enum-told3 .given .1) (c .threshold-4x4 .result) (ap At (c .threshold-4x4 .ensures ∙ ap (share _) sixteen))
+returns-3 c =
+    arm (c .before .before .before) Bayer4x4 (c .before .enum-told3 .given .1) (c .threshold-4x4 .result)
+    (ap At (c .threshold-4x4 .ensures ∙ ap (thresholdFrom _) sixteen))
 
 returns-4 : tie.Need-returns-4
-returns-4 c = arm (c .before .before .before) Bayer8x8 (c .before .enum-told4 .given .1) (c .threshold-8x8 .result) (ap At (c .threshold-8x8 .ensures ∙ ap (share _) sixty-four))
+returns-4 c =
+    arm (c .before .before .before) Bayer8x8 (c .before .enum-told4 .given .1) (c .threshold-8x8 .result)
+    (ap At (c .threshold-8x8 .ensures ∙ ap (thresholdFrom _) sixty-four))
 
 returns-5 : tie.Need-returns-5
-returns-5 c = arm (c .before .before .before) Checker (c .before .enum-told5 .given .1) (c .threshold-2x22 .result) (ap At (c .threshold-2x22 .ensures ∙ ap (share _) two))
+returns-5 c =
+    arm (c .before .before .before) Checker (c .before .enum-told5 .given .1) (c .threshold-2x22 .result)
+    (ap At (c .threshold-2x22 .ensures ∙ ap (thresholdFrom _) two))
 
 returns-6 : tie.Need-returns-6
-returns-6 c = arm (c .before .before .before) StippleV (c .before .enum-told6 .given .1) (c .threshold-2x23 .result) (ap At (c .threshold-2x23 .ensures ∙ ap (share _) four))
+returns-6 c =
+    arm (c .before .before .before) StippleV (c .before .enum-told6 .given .1) (c .threshold-2x23 .result)
+    (ap At (c .threshold-2x23 .ensures ∙ ap (thresholdFrom _) four))
 
 returns-7 : tie.Need-returns-7
-returns-7 c = arm (c .before .before .before) StippleH (c .before .enum-told7 .given .1) (c .threshold-2x24 .result) (ap At (c .threshold-2x24 .ensures ∙ ap (share _) four))
+returns-7 c =
+    arm (c .before .before .before) StippleH (c .before .enum-told7 .given .1) (c .threshold-2x24 .result)
+    (ap At (c .threshold-2x24 .ensures ∙ ap (thresholdFrom _) four))
 
 returns-8 : tie.Need-returns-8
-returns-8 c = arm (c .before .before .before) LineV (c .before .enum-told8 .given .1) (c .threshold-2x25 .result) (ap At (c .threshold-2x25 .ensures ∙ ap (share _) two))
+returns-8 c =
+    arm (c .before .before .before) LineV (c .before .enum-told8 .given .1) (c .threshold-2x25 .result)
+    (ap At (c .threshold-2x25 .ensures ∙ ap (thresholdFrom _) two))
 
 returns-9 : tie.Need-returns-9
-returns-9 c = arm (c .before .before .before) LineH (c .before .enum-told9 .given .1) (c .threshold-2x26 .result) (ap At (c .threshold-2x26 .ensures ∙ ap (share _) two))
+returns-9 c =
+    arm (c .before .before .before) LineH (c .before .enum-told9 .given .1) (c .threshold-2x26 .result)
+    (ap At (c .threshold-2x26 .ensures ∙ ap (thresholdFrom _) two))
 
 returns-10 : tie.Need-returns-10
-returns-10 c = refused (dither (c .before)) (column (c .before)) (row (c .before)) (c .match2 .keys9) ∙ known (c .before)
+returns-10 c =
+    let p = c .before in
+    threshold-promised (kind p) (column p) (row p) (refused (dither p) (column p) (row p) (c .match2 .keys9) ∙ known p)
 
 pub ordered-threshold-spec : {M : Type 1} → statement M
 ordered-threshold-spec =

@@ -1,5 +1,4 @@
 -- `drawing::Ditherer::diffusion_color_at` meets its contract: the nearest to the biased colour, whose residual is passed on. Assumes nothing.
-use Rattle.lists.proofs.Bools.{holds}
 use Rattle.drawing.proofs.StepLaws.{diffused-is}
 use borrow.Author.Needs.{needs}
 use Rattle.drawing.proofs.Ditherer.diffusion_color_at.Statement.{statement}
@@ -23,7 +22,7 @@ row-requires c κs = search needs
 diffuse-residual-requires : tie.Need-diffuse-residual-requires
 diffuse-residual-requires c κs =
     let p = c .before .before .before .before .before .before .before .before .before .before .before .before .pre in
-    (holds (p .3), record { column = c .before .before .column .ensures .1; row = c .before .row .ensures .1; wide = p .2 .wide; high = p .2 .high }, p .4)
+    (record { column = c .before .before .column .ensures .1; row = c .before .row .ensures .1; wide = p .2 .wide; high = p .2 .high }, p .4)
 
 same-length : tie.Need-same-length
 same-length c = search needs

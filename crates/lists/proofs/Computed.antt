@@ -1,5 +1,5 @@
--- What one computed test of a list shows of each place: two functions that give the same list agree at each number below its length.
--- Assumes nothing.
+-- What one computed test shows of each place: two functions that give the same list agree at each number below its length, and so a test that passes
+-- there passes at each; a test that passes of each element of a list passes at each place. Assumes nothing.
 use mathlib.Core.Path.{_≡_, sym, _∙_, subst}
 use mathlib.Core.Bool.{Bool, true, _&&_}
 use mathlib.Core.List.{List, [], _∷_}
@@ -23,6 +23,10 @@ agree-from f g (suc n) i e (suc k) h =
 
 pub agree : {A : Type 0} (f g : ℕ → A) (n : ℕ) → from f 0 n ≡ from g 0 n → (k : ℕ) → k < n → f k ≡ g k
 agree f g n e k h = subst (λ (m : ℕ). f m ≡ g m) (zero-add k) (agree-from f g n 0 e k h)
+
+-- a test of each number below n
+pub each : (test : ℕ → Bool) (n : ℕ) → from test 0 n ≡ from (λ k. true) 0 n → (k : ℕ) → k < n → T (test k)
+each test n e k h = rw (agree test (λ k. true) n e k h) tt
 
 -- ---- a test of each element of a list
 abbrev pub all : {A : Type 0} → (A → Bool) → List A → Bool
