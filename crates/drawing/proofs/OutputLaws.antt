@@ -16,12 +16,15 @@ use Rattle.drawing.specs.Drawing.{Drawing, drawn}
 use Rattle.drawing.specs.Lent.{pixelBytes, reducedBytes}
 
 module _ (d : Drawing) (was out : List ℕ) (i : ℕ) (long : length was ≡ 4 * (d .width * d .height)) (f : Filling 4 (pixelBytes d) was out i) where
-  pub out-more : (c : ReducedColor) (out′ : List ℕ) → i < d .width * d .height → c ≡ drawn d i → out′ ≡ sets out (4 * i) (bytesOf (c .0)) → Filling 4 (pixelBytes d) was out′ (i + 1)
+  pub out-more : (c : ReducedColor) (out′ : List ℕ) → i < d .width * d .height → c ≡ drawn d i → out′ ≡ sets out (4 * i) (bytesOf (c .0))
+      → Filling 4 (pixelBytes d) was out′ (i + 1)
   out-more c out′ inside e stored = fill-store f (λ j. refl) (omega arith) (stored ∙ ap (λ (x : ReducedColor). sets out (4 * i) (bytesOf (x .0))) e)
 
   pub out-all : d .width * d .height ≤ i → out ≡ reducedBytes d
   unfolding reducedBytes
-  out-all past = let e : i ≡ d .width * d .height = omega (arith, f .within) in fill-done f (long ∙ ap (λ (n : ℕ). 4 * n) (sym e)) ∙ ap (λ (n : ℕ). gather n (pixelBytes d)) e
+  out-all past =
+      let e : i ≡ d .width * d .height = omega (arith, f .within) in
+      fill-done f (long ∙ ap (λ (n : ℕ). 4 * n) (sym e)) ∙ ap (λ (n : ℕ). gather n (pixelBytes d)) e
 
 -- ---- the whole output
 module _ (d : Drawing) where

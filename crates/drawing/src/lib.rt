@@ -16,7 +16,7 @@ ghost use Rattle.shortlist.specs.Candidates.{scaled};
 ghost use Rattle.remembered.specs.Table.{nearestAlone, Kept};
 ghost use Rattle.remembered.specs.Shorts.{KeptBoth};
 ghost use Rattle.drawing.specs.Drawing.{nearestColor, orderedColor, colorAt, drawn};
-ghost use Rattle.drawing.specs.Lent.{isZero, isSkipped, lent, drawingOf, reducedBytes, cellsAfter, Ready};
+ghost use Rattle.drawing.specs.Lent.{isZero, isSkipped, lent, candidatesLent, drawingOf, reducedBytes, cellsAfter, Ready};
 ghost use Rattle.drawing.specs.Turns.{Linear, Choosable, Inside, Diffused, cellsBefore, Remembers};
 
 // A picture's colour zero: absent, or one reduced colour.
@@ -36,7 +36,7 @@ pub struct Ditherer {
 }
 
 // Whether a colour has colour zero's rgb.
-pub fn is_zero(zero: ColorZero, c: ReducedColor) -> bool
+fn is_zero(zero: ColorZero, c: ReducedColor) -> bool
     ensures { λ t. ⌜ t ≡ isZero zero c ⌝ }
 {
     match zero {
@@ -46,7 +46,7 @@ pub fn is_zero(zero: ColorZero, c: ReducedColor) -> bool
 }
 
 // Whether a pixel of this reduced colour is skipped: it is transparent, or has colour zero's rgb.
-pub fn is_skipped(zero: ColorZero, c: ReducedColor) -> bool
+fn is_skipped(zero: ColorZero, c: ReducedColor) -> bool
     ensures { λ t. ⌜ t ≡ isSkipped zero c ⌝ }
 {
     c.is_transparent() | is_zero(zero, c)
@@ -64,7 +64,8 @@ fn nearest_color(
     color: NormalizedColor,
     memory: &mut [u64; 897],
 ) -> ReducedColor
-    requires { ⌜ Linear (now linear) × Choosable (now colors) (now scale) (now oklab) count × Kept (nearestAlone (oklabAt (now oklab)) count) (now memory) ⌝ }
+    requires { ⌜ Linear (now linear) × Choosable (now colors) (now scale) (now oklab) count
+        × Kept (nearestAlone (oklabAt (now oklab)) count) (now memory) ⌝ }
     ensures { λ c. ⌜ (c ≡ nearestColor (scaled (now (colors .entry)) (now (scale .entry)) (now (oklab .entry)) count) color)
         × Kept (nearestAlone (oklabAt (now (oklab .entry))) count) (now (memory .exit)) ⌝ }
 {
@@ -120,9 +121,9 @@ impl Ditherer {
     ) -> ReducedColor
         requires { ⌜ Linear (now linear) × Choosable (now colors) (now scale) (now oklab) count × Inside self i × (isOrdered (self .kind) ≡ true)
             × KeptBoth (scaled (now colors) (now scale) (now oklab) count) (self .«bracket_width») (now memory) ⌝ }
-        ensures { λ c. ⌜ (c ≡ orderedColor (scaled (now (colors .entry)) (now (scale .entry)) (now (oklab .entry)) count) (self .kind) (self .«bracket_width»)
-            (self .«origin_x» + i % self .width) (self .«origin_y» + i / self .width) color)
-            × KeptBoth (scaled (now (colors .entry)) (now (scale .entry)) (now (oklab .entry)) count) (self .«bracket_width») (now (memory .exit)) ⌝ }
+        ensures { λ c. ⌜ (let cs = scaled (now (colors .entry)) (now (scale .entry)) (now (oklab .entry)) count in
+            (c ≡ orderedColor cs (self .kind) (self .«bracket_width») (self .«origin_x» + i % self .width) (self .«origin_y» + i / self .width) color)
+            × KeptBoth cs (self .«bracket_width») (now (memory .exit))) ⌝ }
     {
         let width = self.bracket_width;
         let at = remembered::bracket_positions(
@@ -156,9 +157,9 @@ impl Ditherer {
     ) -> ReducedColor
         requires { ⌜ Linear (now linear) × Choosable (now colors) (now scale) (now oklab) count × Inside self i
             × Remembers self (scaled (now colors) (now scale) (now oklab) count) (now memory) ⌝ }
-        ensures { λ c. ⌜ (c ≡ colorAt (scaled (now (colors .entry)) (now (scale .entry)) (now (oklab .entry)) count) (self .kind) (self .«bracket_width»)
-            (self .«origin_x» + i % self .width) (self .«origin_y» + i / self .width) color)
-            × Remembers self (scaled (now (colors .entry)) (now (scale .entry)) (now (oklab .entry)) count) (now (memory .exit)) ⌝ }
+        ensures { λ c. ⌜ (let cs = scaled (now (colors .entry)) (now (scale .entry)) (now (oklab .entry)) count in
+            (c ≡ colorAt cs (self .kind) (self .«bracket_width») (self .«origin_x» + i % self .width) (self .«origin_y» + i / self .width) color)
+            × Remembers self cs (now (memory .exit))) ⌝ }
     {
         if patterns::is_ordered(self.kind) {
             return self.ordered_color_at(linear, colors, scale, oklab, count, i, color, memory);
@@ -183,9 +184,9 @@ impl Ditherer {
         requires { ⌜ Linear (now linear) × Choosable (now colors) (now scale) (now oklab) count × Inside self i × (isDiffusion (self .kind) ≡ true)
             × (length (now cells) ≡ 3 * (self .width * self .height)) × ((zs : List ℤ) × Cells 4080 (now cells) zs)
             × Kept (nearestAlone (oklabAt (now oklab)) count) (now memory) ⌝ }
-        ensures { λ c. ⌜ ((zs : List ℤ) → Cells 4080 (now (cells .entry)) zs
-            → Diffused self (scaled (now (colors .entry)) (now (scale .entry)) (now (oklab .entry)) count) (now (scale .entry)) zs i color c (now (cells .exit)))
-            × Kept (nearestAlone (oklabAt (now (oklab .entry))) count) (now (memory .exit)) ⌝ }
+        ensures { λ c. ⌜ (let cs = scaled (now (colors .entry)) (now (scale .entry)) (now (oklab .entry)) count in
+            ((zs : List ℤ) → Cells 4080 (now (cells .entry)) zs → Diffused self cs (now (scale .entry)) zs i color c (now (cells .exit)))
+            × Kept (nearestAlone (oklabAt (now (oklab .entry))) count) (now (memory .exit))) ⌝ }
     {
         let biased = diffusion::biased_color(cells, i, color);
         let chosen = nearest_color(linear, colors, scale, oklab, count, biased, memory);
@@ -221,13 +222,13 @@ impl Ditherer {
         i: usize,
         memory: &mut [u64; 897],
     ) -> ReducedColor
-        requires { ⌜ Linear (now linear) × Ready self zero (lent (now reduction) (now scale) (now pixels) (now colors) (now oklab) count)
-            × (isDiffusion (self .kind) ≡ false) × (i < self .width * self .height)
-            × Remembers self (scaled (now colors) (now scale) (now oklab) count) (now memory) ⌝ }
-        ensures { λ c. ⌜ (c ≡ drawn (drawingOf self zero (lent (now (reduction .entry)) (now (scale .entry)) (now (pixels .entry)) (now (colors .entry)) (now (oklab .entry)) count)) i)
-            × Remembers self (scaled (now (colors .entry)) (now (scale .entry)) (now (oklab .entry)) count) (now (memory .exit)) ⌝ }
+        requires { ⌜ (let l = lent (now reduction) (now scale) (now pixels) (now colors) (now oklab) count in
+            Linear (now linear) × Ready self zero l × (isDiffusion (self .kind) ≡ false) × (i < self .width * self .height)
+            × Remembers self (candidatesLent l) (now memory)) ⌝ }
+        ensures { λ c. ⌜ (let l = lent (now (reduction .entry)) (now (scale .entry)) (now (pixels .entry)) (now (colors .entry)) (now (oklab .entry)) count in
+            (c ≡ drawn (drawingOf self zero l) i) × Remembers self (candidatesLent l) (now (memory .exit))) ⌝ }
     {
-        let kept = picture::pixel_at(reduction, pixels, i);
+        let kept = picture::reduced_at(reduction, pixels, i);
         if is_skipped(zero, kept) {
             return kept;
         }
@@ -251,17 +252,16 @@ impl Ditherer {
         memory: &mut [u64; 897],
         cells: &mut [f32],
     ) -> ReducedColor
-        requires { ⌜ Linear (now linear) × Ready self zero (lent (now reduction) (now scale) (now pixels) (now colors) (now oklab) count)
-            × (isDiffusion (self .kind) ≡ true) × (i < self .width * self .height)
-            × (now cells ≡ cellsBefore (drawingOf self zero (lent (now reduction) (now scale) (now pixels) (now colors) (now oklab) count)) i)
-            × Kept (nearestAlone (oklabAt (now oklab)) count) (now memory) ⌝ }
-        ensures { λ c. ⌜ (c ≡ drawn (drawingOf self zero (lent (now (reduction .entry)) (now (scale .entry)) (now (pixels .entry)) (now (colors .entry)) (now (oklab .entry)) count)) i)
-            × (now (cells .exit) ≡ cellsBefore (drawingOf self zero (lent (now (reduction .entry)) (now (scale .entry)) (now (pixels .entry)) (now (colors .entry)) (now (oklab .entry)) count)) (i + 1))
-            × Kept (nearestAlone (oklabAt (now (oklab .entry))) count) (now (memory .exit)) ⌝ }
+        requires { ⌜ (let l = lent (now reduction) (now scale) (now pixels) (now colors) (now oklab) count in
+            Linear (now linear) × Ready self zero l × (isDiffusion (self .kind) ≡ true) × (i < self .width * self .height)
+            × (now cells ≡ cellsBefore (drawingOf self zero l) i) × Kept (nearestAlone (oklabAt (now oklab)) count) (now memory)) ⌝ }
+        ensures { λ c. ⌜ (let d = drawingOf self zero
+            (lent (now (reduction .entry)) (now (scale .entry)) (now (pixels .entry)) (now (colors .entry)) (now (oklab .entry)) count) in
+            (c ≡ drawn d i) × (now (cells .exit) ≡ cellsBefore d (i + 1)) × Kept (nearestAlone (oklabAt (now (oklab .entry))) count) (now (memory .exit))) ⌝ }
     {
-        let c = picture::pixel_at(reduction, pixels, i);
-        if is_skipped(zero, c) {
-            return c;
+        let kept = picture::reduced_at(reduction, pixels, i);
+        if is_skipped(zero, kept) {
+            return kept;
         }
         let color = picture::source_at(pixels, i);
         self.diffusion_color_at(linear, colors, scale, oklab, count, i, color, memory, cells)
@@ -283,10 +283,11 @@ impl Ditherer {
         memory: &mut [u64; 897],
         out: &mut [u8],
     )
-        requires { ⌜ Linear (now linear) × Ready self zero (lent (now reduction) (now scale) (now pixels) (now colors) (now oklab) count)
-            × (isDiffusion (self .kind) ≡ false) × (length (now out) ≡ 4 * (self .width * self .height))
-            × Remembers self (scaled (now colors) (now scale) (now oklab) count) (now memory) ⌝ }
-        ensures { λ _. ⌜ now (out .exit) ≡ reducedBytes (drawingOf self zero (lent (now (reduction .entry)) (now (scale .entry)) (now (pixels .entry)) (now (colors .entry)) (now (oklab .entry)) count)) ⌝ }
+        requires { ⌜ (let l = lent (now reduction) (now scale) (now pixels) (now colors) (now oklab) count in
+            Linear (now linear) × Ready self zero l × (isDiffusion (self .kind) ≡ false) × (length (now out) ≡ 4 * (self .width * self .height))
+            × Remembers self (candidatesLent l) (now memory)) ⌝ }
+        ensures { λ _. ⌜ now (out .exit) ≡ reducedBytes (drawingOf self zero
+            (lent (now (reduction .entry)) (now (scale .entry)) (now (pixels .entry)) (now (colors .entry)) (now (oklab .entry)) count)) ⌝ }
     {
         let size = self.width as usize * self.height as usize;
         let mut i = 0;
@@ -324,10 +325,11 @@ impl Ditherer {
         cells: &mut [f32],
     )
         requires { ⌜ Linear (now linear) × Ready self zero (lent (now reduction) (now scale) (now pixels) (now colors) (now oklab) count)
-            × (isDiffusion (self .kind) ≡ true) × (length (now out) ≡ 4 * (self .width * self .height)) × (length (now cells) ≡ 3 * (self .width * self .height))
-            × Kept (nearestAlone (oklabAt (now oklab)) count) (now memory) ⌝ }
-        ensures { λ _. ⌜ (now (out .exit) ≡ reducedBytes (drawingOf self zero (lent (now (reduction .entry)) (now (scale .entry)) (now (pixels .entry)) (now (colors .entry)) (now (oklab .entry)) count)))
-            × (now (cells .exit) ≡ cellsBefore (drawingOf self zero (lent (now (reduction .entry)) (now (scale .entry)) (now (pixels .entry)) (now (colors .entry)) (now (oklab .entry)) count)) (self .width * self .height)) ⌝ }
+            × (isDiffusion (self .kind) ≡ true) × (length (now out) ≡ 4 * (self .width * self .height))
+            × (length (now cells) ≡ 3 * (self .width * self .height)) × Kept (nearestAlone (oklabAt (now oklab)) count) (now memory) ⌝ }
+        ensures { λ _. ⌜ (let d = drawingOf self zero
+            (lent (now (reduction .entry)) (now (scale .entry)) (now (pixels .entry)) (now (colors .entry)) (now (oklab .entry)) count) in
+            (now (out .exit) ≡ reducedBytes d) × (now (cells .exit) ≡ cellsBefore d (self .width * self .height))) ⌝ }
     {
         zero_floats(cells);
         let size = self.width as usize * self.height as usize;
@@ -366,9 +368,11 @@ impl Ditherer {
         cells: &mut [f32],
     )
         requires { ⌜ Ready self zero (lent (now reduction) (now scale) (now pixels) (now colors) (now oklab) count)
-            × (length (now out) ≡ 4 * (self .width * self .height)) × (isDiffusion (self .kind) ≡ true → length (now cells) ≡ 3 * (self .width * self .height)) ⌝ }
-        ensures { λ _. ⌜ (now (out .exit) ≡ reducedBytes (drawingOf self zero (lent (now (reduction .entry)) (now (scale .entry)) (now (pixels .entry)) (now (colors .entry)) (now (oklab .entry)) count)))
-            × (now (cells .exit) ≡ cellsAfter (drawingOf self zero (lent (now (reduction .entry)) (now (scale .entry)) (now (pixels .entry)) (now (colors .entry)) (now (oklab .entry)) count)) (now (cells .entry))) ⌝ }
+            × (length (now out) ≡ 4 * (self .width * self .height))
+            × (isDiffusion (self .kind) ≡ true → length (now cells) ≡ 3 * (self .width * self .height)) ⌝ }
+        ensures { λ _. ⌜ (let d = drawingOf self zero
+            (lent (now (reduction .entry)) (now (scale .entry)) (now (pixels .entry)) (now (colors .entry)) (now (oklab .entry)) count) in
+            (now (out .exit) ≡ reducedBytes d) × (now (cells .exit) ≡ cellsAfter d (now (cells .entry)))) ⌝ }
     {
         let linear = conversion::linear::linear_table();
         let mut memory = [0u64; 897];

@@ -13,17 +13,17 @@ use borrow.Author.Needs.{needs}
 use Rattle.drawing.proofs.Ditherer.diffused_pixel.Statement.{statement}
 use Rattle.drawing.proofs.Ditherer.diffused_pixel.Tie as tie
 
-pixel-at-requires : tie.Need-pixel-at-requires
-pixel-at-requires c κs = search needs
+reduced-at-requires : tie.Need-reduced-at-requires
+reduced-at-requires c κs = search needs
 
 is-skipped-requires : tie.Need-is-skipped-requires
 is-skipped-requires c κs = search needs
 
 returns : tie.Need-returns
 returns c =
-    let read = c .before .before .pixel-at .ensures in
+    let read = c .before .before .reduced-at .ensures in
     let p = c .before .before .before .before .before .before .before .before .before .pre in
-    let s = skipped-as _ _ _ _ _ _ _ read (c .before .is-skipped .ensures) (c .if1 .taken) in
+    let s = skipped-as _ _ _ _ _ read (c .before .is-skipped .ensures) (c .if1 .taken) in
     (read ∙ sym (drawn-skipped _ _ s), turn-skipped _ _ _ s (p .4), p .5)
 
 source-at-requires : tie.Need-source-at-requires
@@ -34,7 +34,7 @@ diffusion-color-at-requires c κs =
     let b = c .before .before .before .before .before .before .before .before .before .before .before .before in
     let a = b .args in
     let p = b .pre in
-    let s = skipped-as _ _ _ _ _ _ _ (c .before .before .before .before .before .pixel-at .ensures) (c .before .before .before .before .is-skipped .ensures) (c .before .before .before .if1 .left) in
+    let s = skipped-as _ _ _ _ _ (c .before .before .before .before .before .reduced-at .ensures) (c .before .before .before .before .is-skipped .ensures) (c .before .before .before .if1 .left) in
     let bytes : (v : ℕ) → getD (a .scale .now) v 0 ≤ 255 = λ v. omega (arith, c .before .before .before .before .before .before .before .before .before .before .shared-slice-known2 .given v) in
     (p .0, choosable (p .1) _ (p .3) s, placed (p .1) _ (p .3), p .2, turn-length _ _ _ (le-of-lt (p .3)) (p .4), (_, turn-cells (a .self) (a .zero) (lent (a .reduction .now) (a .scale .now) (a .pixels .now) (a .colors .now) (a .oklab .now) (a .count)) bytes _ _ (le-of-lt (p .3)) (p .4)), p .5)
 
@@ -46,7 +46,7 @@ returns-2 c =
     let b = c .before .before .before .before .before .before .before .before .before .before .before .before .before .before .before in
     let a = b .args in
     let p = b .pre in
-    let s = skipped-as _ _ _ _ _ _ _ (c .before .before .before .before .before .before .before .before .pixel-at .ensures) (c .before .before .before .before .before .before .before .is-skipped .ensures) (c .before .before .before .before .before .before .if1 .left) in
+    let s = skipped-as _ _ _ _ _ (c .before .before .before .before .before .before .before .before .reduced-at .ensures) (c .before .before .before .before .before .before .before .is-skipped .ensures) (c .before .before .before .before .before .before .if1 .left) in
     let bytes : (v : ℕ) → getD (a .scale .now) v 0 ≤ 255 = λ v. omega (arith, c .before .before .before .before .before .before .before .before .before .before .before .before .before .shared-slice-known2 .given v) in
     let l = lent (a .reduction .now) (a .scale .now) (a .pixels .now) (a .colors .now) (a .oklab .now) (a .count) in
     let made = c .before .before .diffusion-color-at .ensures .0 _ (turn-cells (a .self) (a .zero) l bytes _ _ (le-of-lt (p .3)) (p .4)) in
@@ -56,7 +56,7 @@ pub diffused-pixel-spec : {M : Type 1} → statement M
 diffused-pixel-spec =
     tie.close
     (tie.spec
-    pixel-at-requires
+    reduced-at-requires
     is-skipped-requires
     returns
     source-at-requires

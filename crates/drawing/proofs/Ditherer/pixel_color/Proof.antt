@@ -7,16 +7,16 @@ use borrow.Author.Needs.{needs}
 use Rattle.drawing.proofs.Ditherer.pixel_color.Statement.{statement}
 use Rattle.drawing.proofs.Ditherer.pixel_color.Tie as tie
 
-pixel-at-requires : tie.Need-pixel-at-requires
-pixel-at-requires c κs = search needs
+reduced-at-requires : tie.Need-reduced-at-requires
+reduced-at-requires c κs = search needs
 
 is-skipped-requires : tie.Need-is-skipped-requires
 is-skipped-requires c κs = search needs
 
 returns : tie.Need-returns
 returns c =
-    let read = c .before .before .pixel-at .ensures in
-    (read ∙ sym (drawn-skipped _ _ (skipped-as _ _ _ _ _ _ _ read (c .before .is-skipped .ensures) (c .if1 .taken))), c .before .before .before .before .before .before .before .before .pre .4)
+    let read = c .before .before .reduced-at .ensures in
+    (read ∙ sym (drawn-skipped _ _ (skipped-as _ _ _ _ _ read (c .before .is-skipped .ensures) (c .if1 .taken))), c .before .before .before .before .before .before .before .before .pre .4)
 
 source-at-requires : tie.Need-source-at-requires
 source-at-requires c κs = search needs
@@ -24,21 +24,21 @@ source-at-requires c κs = search needs
 color-at-requires : tie.Need-color-at-requires
 color-at-requires c κs =
     let p = c .before .before .before .before .before .before .before .before .before .before .pre in
-    let s = skipped-as _ _ _ _ _ _ _ (c .before .before .before .before .pixel-at .ensures) (c .before .before .before .is-skipped .ensures) (c .before .before .if1 .left) in
+    let s = skipped-as _ _ _ _ _ (c .before .before .before .before .reduced-at .ensures) (c .before .before .before .is-skipped .ensures) (c .before .before .if1 .left) in
     (p .0, choosable (p .1) _ (p .3) s, placed (p .1) _ (p .3), p .4)
 
 returns-2 : tie.Need-returns-2
 returns-2 c =
     let b = c .before .before .before .before .before .before .before .before .before .before .before in
     let a = b .args in
-    let s = skipped-as _ _ _ _ _ _ _ (c .before .before .before .before .before .pixel-at .ensures) (c .before .before .before .before .is-skipped .ensures) (c .before .before .before .if1 .left) in
+    let s = skipped-as _ _ _ _ _ (c .before .before .before .before .before .reduced-at .ensures) (c .before .before .before .before .is-skipped .ensures) (c .before .before .before .if1 .left) in
     (plain-is (a .self) (a .zero) (lent (a .reduction .now) (a .scale .now) (a .pixels .now) (a .colors .now) (a .oklab .now) (a .count)) (a .i) _ _ s (b .pre .2) (c .before .before .source-at .ensures) (c .color-at .ensures .0), c .color-at .ensures .1)
 
 pub pixel-color-spec : {M : Type 1} → statement M
 pixel-color-spec =
     tie.close
     (tie.spec
-    pixel-at-requires
+    reduced-at-requires
     is-skipped-requires
     returns
     source-at-requires
