@@ -15,8 +15,8 @@ use Rattle.replies.specs.Unique.{Unique}
 use Rattle.lists.proofs.Bools.{or-split, equals}
 use Rattle.replies.proofs.ReplyLaws.{reply-zero, reply-none, reply-at, reply-front, reply-upto, after-refused}
 use Rattle.replies.proofs.LowestLaws.{lowest-is}
-use Rattle.picture.specs.Bounds.{tableWrong}
-use Rattle.picture.proofs.BoundLaws.{sized}
+use Rattle.picture.specs.Bounds.{lentWrong}
+use Rattle.picture.proofs.BoundLaws.{sized, lent-so}
 use Rattle.candidates.specs.Rooms.{placesWith, oklabWith, tooMany, Collects}
 use Rattle.candidates.specs.Calls.{Lent, candidatesIn, lengthsOf, roomsWrong, lengthsWrong, checks, replies, numberOf, answerOf, placesAfter, oklabAfter, CandidateColors}
 use Rattle.candidates.specs.declared.Lengths.{Lengths}
@@ -27,36 +27,28 @@ use Rattle.candidates.specs.declared.CandidateCount.the-variants.{Count,
 
 -- ---- what the checks leave
 -- rooms that are not wrong: at most 65,536 places, and three floats a place
-pub roomy : (places oklab : ℕ) → roomsWrong places oklab ≡ false → (places ≤ 262144) × (oklab ≡ 3 * (places / 4))
+pub roomy : (places oklab : ℕ) → roomsWrong places oklab ≡ false → (places ≤ 4 * 65536) × (oklab ≡ 3 * (places / 4))
 unfolding roomsWrong
 roomy places oklab e =
-    let a = or-split (ltb 262144 places) _ (or-split (not (eqb (places % 4) 0)) _ e .1) in
-    (ltb-false 262144 places (a .0), equals oklab (3 * (places / 4)) (a .1))
+    let a = or-split (ltb (4 * 65536) places) _ (or-split (not (eqb (places % 4) 0)) _ e .1) in
+    (ltb-false (4 * 65536) places (a .0), equals oklab (3 * (places / 4)) (a .1))
 
 pub record Ready (n : ℕ) (lent : Lengths) : Type 0 where
   pub size : n ≤ 1048576
   pub reduction : lent .reduction ≡ 256
   pub scale : lent .scale ≡ 256
   pub pixels : lent .pixels ≡ 4 * n
-  pub places : lent .places ≤ 262144
+  pub places : lent .places ≤ 4 * 65536
   pub oklab : lent .oklab ≡ 3 * (lent .places / 4)
 
 pub accepted : (shift width height : ℕ) (lent : Lengths) → firstReply (checks shift width height lent) ≡ 0 → Ready (width * height) lent
-unfolding lengthsWrong tableWrong
+unfolding lengthsWrong
 accepted shift width height lent e =
     let none = reply-none (checks shift width height lent) tt e in
-    let a = or-split (tableWrong (lent .reduction)) _ (none .1 .1 .0) in
-    let b = or-split (tableWrong (lent .scale)) _ (a .1) in
-    let d = or-split (not (eqb (lent .pixels) (4 * (width * height)))) _ (b .1) in
-    let room = roomy (lent .places) (lent .oklab) (d .1) in
-    record {
-      size = sized width height (none .1 .0) .2;
-      reduction = equals (lent .reduction) 256 (a .0);
-      scale = equals (lent .scale) 256 (b .0);
-      pixels = equals (lent .pixels) (4 * (width * height)) (d .0);
-      places = room .0;
-      oklab = room .1;
-    }
+    let a = or-split (lentWrong (lent .reduction) (lent .scale) (lent .pixels) (width * height)) _ (none .1 .1 .0) in
+    let so = lent-so (lent .reduction) (lent .scale) (lent .pixels) (width * height) (a .0) in
+    let room = roomy (lent .places) (lent .oklab) (a .1) in
+    record { size = sized width height (none .1 .0) .2; reduction = so .0; scale = so .1; pixels = so .2; places = room .0; oklab = room .1 }
 
 -- ---- the answers
 abbrev answer-from : Collected → CandidateCount

@@ -11,7 +11,8 @@ use lib.ListN.{length, replicate}
 use Rattle.color.specs.declared.ReducedColor.{ReducedColor}
 use Rattle.replies.specs.Replies.{Reply, _if_, firstReply, after}
 use Rattle.mixing.specs.Widths.{isShift}
-use Rattle.picture.specs.Bounds.{sizeWrong, tableWrong}
+use Rattle.picture.specs.Bounds.{sizeWrong, lentWrong}
+use Rattle.picture.specs.Pixels.{reducedBy}
 use Rattle.candidates.specs.Candidates.{candidatesOf}
 use Rattle.candidates.specs.Rooms.{placesWith, oklabWith, tooMany}
 use Rattle.candidates.specs.declared.Lengths.{Lengths}
@@ -31,20 +32,18 @@ pub record Lent : Type 0 where
 
 -- the picture's candidates
 unfoldable pub candidatesIn : Lent → List ReducedColor
-candidatesIn x = candidatesOf (x .reduction) (x .pixels) (x .width * x .height)
+candidatesIn x = candidatesOf (reducedBy (x .reduction) (x .pixels)) (x .width * x .height)
 
 abbrev pub lengthsOf : Lent → Lengths
 lengthsOf x = record { reduction = length (x .reduction); scale = length (x .scale); pixels = length (x .pixels); places = length (x .places); oklab = length (x .oklab) }
 
 -- places that are no whole colours, or more than 65,536; or not three floats beside each
 unfoldable pub roomsWrong : ℕ → ℕ → Bool
-roomsWrong places oklab = not (eqb (places % 4) 0) || (ltb 262144 places || not (eqb oklab (3 * (places / 4))))
+roomsWrong places oklab = not (eqb (places % 4) 0) || (ltb (4 * 65536) places || not (eqb oklab (3 * (places / 4))))
 
 -- a table, the pixels or a room has another length than n pixels need
 unfoldable pub lengthsWrong : ℕ → Lengths → Bool
-lengthsWrong n lent =
-    tableWrong (lent .reduction)
-    || (tableWrong (lent .scale) || (not (eqb (lent .pixels) (4 * n)) || roomsWrong (lent .places) (lent .oklab)))
+lengthsWrong n lent = lentWrong (lent .reduction) (lent .scale) (lent .pixels) n || roomsWrong (lent .places) (lent .oklab)
 
 -- the refusals that need no look at a pixel, and all of them
 abbrev pub checks : ℕ → ℕ → ℕ → Lengths → List Reply

@@ -4,5 +4,6 @@ pub mod LinearLaws
 pub mod RootLaws
 pub mod NearestLaws
 pub mod OklabLaws
+pub mod ListLaws
 pub mod Bits
 pub mod Unique

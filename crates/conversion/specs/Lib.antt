@@ -1,5 +1,6 @@
--- The definitions of `conversion`: linear values, the cube root, division to the nearest, and Oklab.
+-- The definitions of `conversion`: linear values, the cube root, division to the nearest, Oklab, and the Oklab of a list.
 pub mod Linear
 pub mod Root
 pub mod Nearest
 pub mod Oklab
+pub mod Lists

@@ -1,3 +1,4 @@
 -- The laws of `picture`.
 pub mod BoundLaws
+pub mod PixelLaws
 pub mod Opaque

@@ -2,7 +2,7 @@
 ghost use mathlib.Core.Path.{_≡_};
 ghost use Prim.Native.Nat.{_+_, _*_, _<_, _≤_};
 ghost use lib.ListN.{length};
-ghost use Rattle.picture.specs.Bounds.{sizeWrong, originWrong, tableWrong, sideWrong};
+ghost use Rattle.picture.specs.Bounds.{sizeWrong, originWrong, tableWrong, lentWrong, sideWrong};
 ghost use Rattle.picture.specs.Pixels.{sourceAt, reducedBy, isSeen, pixelAt, isOpaque};
 use color::NormalizedColor;
 use color::ReducedColor;
@@ -26,6 +26,14 @@ pub fn table_wrong(entries: usize) -> bool
     ensures { λ r. ⌜ r ≡ tableWrong entries ⌝ }
 {
     entries != 256
+}
+
+// Whether a table or the pixels that every call on a picture is lent have not the length that n pixels need.
+pub fn lent_wrong(reduction: usize, scale: usize, pixels: usize, n: usize) -> bool
+    requires { ⌜ n ≤ 1048576 ⌝ }
+    ensures { λ r. ⌜ r ≡ lentWrong reduction scale pixels n ⌝ }
+{
+    table_wrong(reduction) | (table_wrong(scale) | (pixels != 4 * n))
 }
 
 // Whether a tile's side is not from 1 to 4,096.
