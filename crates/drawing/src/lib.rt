@@ -1,5 +1,5 @@
-// Drawing a picture: every pixel's choice, for all kinds of dithering, into a lent buffer as reduced bytes. Names are those
-// of `Ditherer` in src/dither.rs; the error cells are lent.
+// Drawing a picture: every pixel's choice, for all kinds of dithering, into a lent buffer as reduced bytes; and finishing it,
+// which gives the choices their full precision. Names are those of `Ditherer` in src/dither.rs; the error cells are lent.
 use color::NormalizedColor;
 use color::ReducedColor;
 use lists::zero_floats;
@@ -11,13 +11,17 @@ ghost use lib.IntN.{ℤ};
 ghost use lib.ListN.{length};
 ghost use Rattle.floats.specs.Cells.{Cells};
 ghost use Rattle.patterns.specs.Kinds.{isOrdered, isDiffusion};
+ghost use Rattle.color.specs.Color.{reducedAt};
+ghost use Rattle.color.specs.Tables.{normalizeColor};
 ghost use Rattle.color.specs.Oklab.{oklabAt};
+ghost use Rattle.picture.specs.Pixels.{reducedBy};
 ghost use Rattle.shortlist.specs.Candidates.{scaled};
 ghost use Rattle.remembered.specs.Table.{nearestAlone, Kept};
 ghost use Rattle.remembered.specs.Shorts.{KeptBoth};
 ghost use Rattle.drawing.specs.Drawing.{nearestColor, orderedColor, colorAt, drawn};
 ghost use Rattle.drawing.specs.Lent.{isZero, isSkipped, lent, candidatesLent, drawingOf, reducedBytes, cellsAfter, Ready};
 ghost use Rattle.drawing.specs.Turns.{Linear, Choosable, Inside, Diffused, cellsBefore, Remembers};
+ghost use Rattle.drawing.specs.Finished.{finished, finishedBytes, Finishable};
 
 // A picture's colour zero: absent, or one reduced colour.
 pub enum ColorZero {
@@ -404,5 +408,35 @@ impl Ditherer {
                 out,
             );
         }
+    }
+}
+
+// ---- the drawn picture at full precision
+
+// What becomes of a pixel that chose a colour. No public call: the caller sees to the table.
+fn finished_color(scale: &[u8], seen: bool, c: ReducedColor) -> NormalizedColor
+    requires { ⌜ length (now scale) ≡ 256 ⌝ }
+    ensures { λ r. ⌜ r ≡ finished (normalizeColor (now (scale .entry))) seen c ⌝ }
+{
+    if seen {
+        return color::normalize_color(scale, c);
+    }
+    NormalizedColor::TRANSPARENT
+}
+
+// Finishes n pixels, whose reduced choices are lent: each choice's full precision form takes its place. No public call: the
+// caller sees to the lengths.
+pub fn finish(reduction: &[u8], scale: &[u8], pixels: &[u8], n: usize, out: &mut [u8])
+    requires { ⌜ Finishable (now reduction) (now scale) (now pixels) n (now out) ⌝ }
+    ensures { λ _. ⌜ (let reduced = reducedBy (now (reduction .entry)) (now (pixels .entry)) in
+        now (out .exit) ≡ finishedBytes (normalizeColor (now (scale .entry))) reduced (reducedAt (now (out .entry))) n) ⌝ }
+{
+    let mut i = 0;
+    while i < n {
+        let chosen = ReducedColor(color::rgba_at(out, i));
+        let seen = picture::is_seen(reduction, pixels, i);
+        let c = finished_color(scale, seen, chosen);
+        color::put_rgba(out, i, c.0);
+        i += 1;
     }
 }

@@ -1,18 +1,14 @@
 -- The shifts of the modes, and the width of a bracket. Definitions only.
 -- Written from document 01, "Choosing colours": "`bracket_width`: max·shift/16, rounded with halves up, clamped to 1..16", and refusal 1.
 use Prim.Native.Nat.{ℕ, _+_, _*_, _/_, min, max}
-use mathlib.Core.Bool.{Bool, cond, not, _||_}
-use lib.Dec.{eqb, ltb}
+use mathlib.Core.Bool.{Bool, cond, _||_}
+use lib.Dec.{eqb}
 use Rattle.mixing.specs.declared.Width.{Width}
 use Rattle.mixing.specs.declared.Width.the-variants.{Of, Refused}
 
 -- the shifts of the ported modes: 3, 4, 5
 unfoldable pub isShift : ℕ → Bool
 isShift shift = eqb shift 3 || (eqb shift 4 || eqb shift 5)
-
--- "kind above 10, or shift not 3, 4, 5"
-unfoldable pub modeWrong : ℕ → ℕ → Bool
-modeWrong kind shift = ltb 10 kind || not (isShift shift)
 
 -- a width, brought to 1..16
 abbrev pub clampWidth : ℕ → ℕ
