@@ -10,15 +10,18 @@ use borrow.Author.Tests.{ltb-false, ne-eqb}
 use lib.Dec.{ltb, eqb}
 use lib.Ieee.{Float}
 use lib.ListN.{length, replicate}
+use Rattle.color.specs.declared.ReducedColor.{ReducedColor}
 use Rattle.replies.specs.Replies.{Reply, _if_, firstReply, Lowest, after, NoneApplies}
 use Rattle.replies.specs.Unique.{Unique}
 use Rattle.lists.proofs.Bools.{or-split, equals}
 use Rattle.replies.proofs.ReplyLaws.{reply-zero, reply-none, reply-at, reply-front, reply-upto, after-refused}
 use Rattle.replies.proofs.LowestLaws.{lowest-is}
+use Rattle.replies.proofs.AnswerLaws.{answers, answers-only}
 use Rattle.picture.specs.Bounds.{lentWrong}
 use Rattle.picture.proofs.BoundLaws.{sized, lent-so}
 use Rattle.candidates.specs.Rooms.{placesWith, oklabWith, tooMany, Collects}
-use Rattle.candidates.specs.Calls.{Lent, candidatesIn, lengthsOf, roomsWrong, lengthsWrong, checks, replies, numberOf, answerOf, placesAfter, oklabAfter, CandidateColors}
+use Rattle.candidates.specs.Calls.{Asked, candidatesIn, lengthsOf, roomsWrong, lengthsWrong, checks, replies, CandidateColors}
+use Rattle.candidates.specs.Calls.{numberOf, answerOf, placesAfter, oklabAfter}
 use Rattle.candidates.specs.declared.Lengths.{Lengths}
 use Rattle.candidates.specs.declared.Collected.{Collected}
 use Rattle.candidates.specs.declared.Collected.the-variants as collected
@@ -55,62 +58,73 @@ abbrev answer-from : Collected → CandidateCount
 answer-from (collected.Count n) = Count n
 answer-from collected.TooMany = Refused 7
 
-module _ (x : Lent) where
-  abbrev before : List Reply
-  before = checks (x .shift) (x .width) (x .height) (lengthsOf x)
+module _ (x : Asked) where
+  abbrev checked : List Reply
+  checked = checks (x .shift) (x .width) (x .height) (lengthsOf x)
 
-  -- 7, which comes behind the checks
-  abbrev seven : Reply
-  seven = 7 if tooMany (candidatesIn x) (x .places)
+  abbrev cs : List ReducedColor
+  cs = candidatesIn x
+
+  abbrev full : Bool
+  full = tooMany cs (x .places)
+
+  -- what is answered with a number has that number
+  own : (n : ℕ) → numberOf (answerOf x n) ≡ n
+  own zero = refl
+  own (suc n) = refl
 
   -- by the number
-  call-is : {r : CandidateCount} {places : List ℕ} {oklab : List Float} (n : ℕ) → firstReply (replies x) ≡ n → numberOf r ≡ n → r ≡ answerOf n x → places ≡ placesAfter n x → oklab ≡ oklabAfter n x
-      → CandidateColors x r places oklab
-  call-is n l number answer bytes floats = record {
-    number = number ∙ sym l;
-    answer = answer ∙ ap (λ (m : ℕ). answerOf m x) (sym l);
-    bytes = bytes ∙ ap (λ (m : ℕ). placesAfter m x) (sym l);
-    floats = floats ∙ ap (λ (m : ℕ). oklabAfter m x) (sym l);
-  }
+  call-is : {r : CandidateCount} {places : List ℕ} {oklab : List Float} (n : ℕ) → firstReply (replies x) ≡ n → r ≡ answerOf x n
+      → places ≡ placesAfter x n → oklab ≡ oklabAfter x n → CandidateColors x r places oklab
+  call-is {r} n first answer bytes floats =
+      let same : n ≡ numberOf r = sym (ap numberOf answer ∙ own n) in
+      record {
+        answer = answers numberOf (replies x) (answerOf x) own (answer ∙ ap (answerOf x) (sym first));
+        bytes = bytes ∙ ap (placesAfter x) same;
+        floats = floats ∙ ap (oklabAfter x) same;
+      }
 
-  pub call-refused : {r : ℕ} → r ≡ firstReply (checks (x .shift) (x .width) (x .height) (lengthsOf x)) → (r ≡ 0 → ⊥) → CandidateColors x (Refused r) (x .places) (x .oklab)
+  pub call-refused : {r : ℕ} → r ≡ firstReply checked → (r ≡ 0 → ⊥) → CandidateColors x (Refused r) (x .places) (x .oklab)
   call-refused {r} e n =
-      call-is r (reply-front before (seven ∷ []) (λ z. n (e ∙ z)) ∙ sym e) refl (refused r n)
-      (after-refused r (placesWith (candidatesIn x) (x .places)) (x .places) n
-      ∙ ap (λ (b : Bool). cond b (replicate (length (x .places)) 0) (after r (placesWith (candidatesIn x) (x .places)) (x .places))) (sym (ne-eqb r 7 not-seven)))
-      (after-refused r (oklabWith (x .scale) (candidatesIn x) (x .oklab)) (x .oklab) n)
+      call-is r (reply-front checked (7 if full ∷ []) (λ z. n (e ∙ z)) ∙ sym e) (refused r n)
+      (after-refused r (placesWith cs (x .places)) (x .places) n
+      ∙ ap (λ (b : Bool). cond b (replicate (length (x .places)) 0) (after r (placesWith cs (x .places)) (x .places))) (sym (ne-eqb r 7 not-seven)))
+      (after-refused r (oklabWith (x .scale) cs (x .oklab)) (x .oklab) n)
     where
-      refused : (r : ℕ) → (r ≡ 0 → ⊥) → Refused r ≡ answerOf r x
+      refused : (r : ℕ) → (r ≡ 0 → ⊥) → Refused r ≡ answerOf x r
       refused zero n = absurd (n refl)
       refused (suc r) n = refl
 
       not-seven : r ≡ 7 → ⊥
-      not-seven q = omega (arith, e, reply-upto 3 before tt)
+      not-seven q = omega (arith, e, reply-upto 3 checked tt)
 
-  pub call-collected : firstReply (checks (x .shift) (x .width) (x .height) (lengthsOf x)) ≡ 0 → {r s : Collected} {places : List ℕ} {oklab : List Float}
-      → Collects (candidatesIn x) (x .scale) (x .places) (x .oklab) s places oklab → s ≡ r → CandidateColors x (answer-from r) places oklab
-  call-collected free {r} {s} {places} {oklab} p same = go (tooMany (candidatesIn x) (x .places)) refl
+  pub call-collected : firstReply checked ≡ 0 → {r s : Collected} {places : List ℕ} {oklab : List Float}
+      → Collects cs (x .scale) (x .places) (x .oklab) s places oklab → s ≡ r → CandidateColors x (answer-from r) places oklab
+  call-collected free {r} {s} {places} {oklab} p same = go full refl
     where
-      none : NoneApplies before
-      none = reply-none before tt free
+      none : NoneApplies checked
+      none = reply-none checked tt free
 
-      answer : {t : Bool} → tooMany (candidatesIn x) (x .places) ≡ t → r ≡ cond t collected.TooMany (collected.Count (length (candidatesIn x)))
-      answer t = sym same ∙ p .answer ∙ ap (λ (b : Bool). cond b collected.TooMany (collected.Count (length (candidatesIn x)))) t
+      answer : {t : Bool} → full ≡ t → answer-from r ≡ answer-from (cond t collected.TooMany (collected.Count (length cs)))
+      answer t = ap answer-from (sym same ∙ p .answer ∙ ap (λ (b : Bool). cond b collected.TooMany (collected.Count (length cs))) t)
 
-      bytes : {t : Bool} → tooMany (candidatesIn x) (x .places) ≡ t → places ≡ cond t (replicate (length (x .places)) 0) (placesWith (candidatesIn x) (x .places))
-      bytes t = p .bytes ∙ ap (λ (b : Bool). cond b (replicate (length (x .places)) 0) (placesWith (candidatesIn x) (x .places))) t
+      bytes : {t : Bool} → full ≡ t → places ≡ cond t (replicate (length (x .places)) 0) (placesWith cs (x .places))
+      bytes t = p .bytes ∙ ap (λ (b : Bool). cond b (replicate (length (x .places)) 0) (placesWith cs (x .places))) t
 
-      floats : {t : Bool} → tooMany (candidatesIn x) (x .places) ≡ t → oklab ≡ cond t (x .oklab) (oklabWith (x .scale) (candidatesIn x) (x .oklab))
-      floats t = p .floats ∙ ap (λ (b : Bool). cond b (x .oklab) (oklabWith (x .scale) (candidatesIn x) (x .oklab))) t
+      floats : {t : Bool} → full ≡ t → oklab ≡ cond t (x .oklab) (oklabWith (x .scale) cs (x .oklab))
+      floats t = p .floats ∙ ap (λ (b : Bool). cond b (x .oklab) (oklabWith (x .scale) cs (x .oklab))) t
 
-      go : (t : Bool) → tooMany (candidatesIn x) (x .places) ≡ t → CandidateColors x (answer-from r) places oklab
-      go true t = call-is 7 (reply-at before seven [] none t) (ap (λ (q : Collected). numberOf (answer-from q)) (answer t)) (ap answer-from (answer t)) (bytes t) (floats t)
-      go false t =
-          call-is 0 (reply-zero (replies x) (none .0, (none .1 .0, (none .1 .1 .0, (t, tt))))) (ap (λ (q : Collected). numberOf (answer-from q)) (answer t)) (ap answer-from (answer t)) (bytes t) (floats t)
+      go : (t : Bool) → full ≡ t → CandidateColors x (answer-from r) places oklab
+      go true t = call-is 7 (reply-at checked (7 if full) [] none t) (answer t) (bytes t) (floats t)
+      go false t = call-is 0 (reply-zero (replies x) (none .0, (none .1 .0, (none .1 .1 .0, (t, tt))))) (answer t) (bytes t) (floats t)
 
   -- ---- the number, and one result
   pub number-is : {r : CandidateCount} {places : List ℕ} {oklab : List Float} → CandidateColors x r places oklab → Lowest (replies x) (numberOf r)
-  number-is p = subst (Lowest (replies x)) (sym (p .number)) (lowest-is (replies x) tt)
+  number-is p = subst (Lowest (replies x)) (sym (p .answer .number)) (lowest-is (replies x) tt)
 
   pub colors-only : Unique (λ (y : CandidateCount × List ℕ × List Float). CandidateColors x (y .0) (y .1) (y .2))
-  colors-only y z p q = λ i. ((p .answer ∙ sym (q .answer)) i, (p .bytes ∙ sym (q .bytes)) i, (p .floats ∙ sym (q .floats)) i)
+  colors-only y z p q =
+      let same : y .0 ≡ z .0 = answers-only numberOf (replies x) (answerOf x) (y .0) (z .0) (p .answer) (q .answer) in
+      let bytes : y .1 ≡ z .1 = p .bytes ∙ ap (λ (r : CandidateCount). placesAfter x (numberOf r)) same ∙ sym (q .bytes) in
+      let floats : y .2 ≡ z .2 = p .floats ∙ ap (λ (r : CandidateCount). oklabAfter x (numberOf r)) same ∙ sym (q .floats) in
+      λ i. (same i, bytes i, floats i)

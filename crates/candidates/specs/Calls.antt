@@ -9,7 +9,8 @@ use lib.Dec.{ltb, eqb}
 use lib.Ieee.{Float}
 use lib.ListN.{length, replicate}
 use Rattle.color.specs.declared.ReducedColor.{ReducedColor}
-use Rattle.replies.specs.Replies.{Reply, _if_, firstReply, after}
+use Rattle.replies.specs.Replies.{Reply, _if_, after}
+use Rattle.replies.specs.Answers.{Answers}
 use Rattle.mixing.specs.Widths.{isShift}
 use Rattle.picture.specs.Bounds.{sizeWrong, lentWrong}
 use Rattle.picture.specs.Pixels.{reducedBy}
@@ -19,8 +20,8 @@ use Rattle.candidates.specs.declared.Lengths.{Lengths}
 use Rattle.candidates.specs.declared.CandidateCount.{CandidateCount}
 use Rattle.candidates.specs.declared.CandidateCount.the-variants.{Count, Refused}
 
--- what is lent to the call
-pub record Lent : Type 0 where
+-- what the call is asked, with the rooms as they are lent
+pub record Asked : Type 0 where
   pub shift : ℕ
   pub width : ℕ
   pub height : ℕ
@@ -31,11 +32,17 @@ pub record Lent : Type 0 where
   pub oklab : List Float
 
 -- the picture's candidates
-unfoldable pub candidatesIn : Lent → List ReducedColor
+unfoldable pub candidatesIn : Asked → List ReducedColor
 candidatesIn x = candidatesOf (reducedBy (x .reduction) (x .pixels)) (x .width * x .height)
 
-abbrev pub lengthsOf : Lent → Lengths
-lengthsOf x = record { reduction = length (x .reduction); scale = length (x .scale); pixels = length (x .pixels); places = length (x .places); oklab = length (x .oklab) }
+abbrev pub lengthsOf : Asked → Lengths
+lengthsOf x = record {
+  reduction = length (x .reduction);
+  scale = length (x .scale);
+  pixels = length (x .pixels);
+  places = length (x .places);
+  oklab = length (x .oklab);
+}
 
 -- places that are no whole colours, or more than 65,536; or not three floats beside each
 unfoldable pub roomsWrong : ℕ → ℕ → Bool
@@ -49,7 +56,7 @@ lengthsWrong n lent = lentWrong (lent .reduction) (lent .scale) (lent .pixels) n
 abbrev pub checks : ℕ → ℕ → ℕ → Lengths → List Reply
 checks shift width height lent = 1 if not (isShift shift) ∷ 2 if sizeWrong width height ∷ 3 if lengthsWrong (width * height) lent ∷ []
 
-abbrev pub replies : Lent → List Reply
+abbrev pub replies : Asked → List Reply
 replies x = checks (x .shift) (x .width) (x .height) (lengthsOf x) ++ 7 if tooMany (candidatesIn x) (x .places) ∷ []
 
 -- document 01's number of an answer
@@ -57,22 +64,21 @@ abbrev pub numberOf : CandidateCount → ℕ
 numberOf (Count n) = 0
 numberOf (Refused n) = n
 
--- the answer with number r
-abbrev pub answerOf : ℕ → Lent → CandidateCount
-answerOf zero x = Count (length (candidatesIn x))
-answerOf (suc r) x = Refused (suc r)
+-- what is answered with a number
+abbrev pub answerOf : Asked → ℕ → CandidateCount
+answerOf x zero = Count (length (candidatesIn x))
+answerOf x (suc n) = Refused (suc n)
 
--- the places after number r: the candidates; all 0 after 7; else as they were
-abbrev pub placesAfter : ℕ → Lent → List ℕ
-placesAfter r x = cond (eqb r 7) (replicate (length (x .places)) 0) (after r (placesWith (candidatesIn x) (x .places)) (x .places))
+-- the places after number n: the candidates; all 0 after 7; else as they were
+abbrev pub placesAfter : Asked → ℕ → List ℕ
+placesAfter x n = cond (eqb n 7) (replicate (length (x .places)) 0) (after n (placesWith (candidatesIn x) (x .places)) (x .places))
 
 -- and the floats beside them
-abbrev pub oklabAfter : ℕ → Lent → List Float
-oklabAfter r x = after r (oklabWith (x .scale) (candidatesIn x) (x .oklab)) (x .oklab)
+abbrev pub oklabAfter : Asked → ℕ → List Float
+oklabAfter x n = after n (oklabWith (x .scale) (candidatesIn x) (x .oklab)) (x .oklab)
 
--- what `candidate_colors_in` promises: the answer, with the lowest number that applies, and both rooms afterwards
-pub record CandidateColors (x : Lent) (r : CandidateCount) (places : List ℕ) (oklab : List Float) : Type 0 where
-  pub number : numberOf r ≡ firstReply (replies x)
-  pub answer : r ≡ answerOf (firstReply (replies x)) x
-  pub bytes : places ≡ placesAfter (firstReply (replies x)) x
-  pub floats : oklab ≡ oklabAfter (firstReply (replies x)) x
+-- what `candidate_colors_in` promises: the answer, and both rooms after its number
+pub record CandidateColors (x : Asked) (r : CandidateCount) (places : List ℕ) (oklab : List Float) : Type 0 where
+  pub answer : Answers numberOf (replies x) (answerOf x) r
+  pub bytes : places ≡ placesAfter x (numberOf r)
+  pub floats : oklab ≡ oklabAfter x (numberOf r)

@@ -21,7 +21,8 @@ use Rattle.color.specs.Tables.{normalizeColor}
 use Rattle.color.specs.Oklab.{allInRange, floatsOf}
 use Rattle.color.proofs.Distances.{range-all-in}
 use Rattle.color.proofs.PieceLaws.{oklab-gathered}
-use Rattle.picture.specs.Pixels.{pixelAt, isOpaque}
+use Rattle.picture.specs.Pixels.{pixelAt, reducedBy, isSeen, isOpaque}
+use Rattle.picture.proofs.PixelLaws.{reduced-solid}
 use Rattle.picture.proofs.Opaque.{opaque-is}
 use Rattle.conversion.specs.Oklab.{toOklab}
 use Rattle.conversion.proofs.OklabLaws.{ranged}
@@ -110,6 +111,8 @@ drawn-opaque zero reduction pixels i s = opaque-is reduction pixels i ∙ ap not
 
 -- where the reduction table holds bytes
 pub some-candidate : (zero : ColorZero) (reduction pixels : List ℕ) (n : ℕ) → ((v : ℕ) → getD reduction v 0 < 256) → (i : ℕ) → i < n
-    → isSkipped zero (pixelAt reduction pixels i) ≡ false → 0 < length (candidatesOf reduction pixels n)
+    → isSkipped zero (pixelAt reduction pixels i) ≡ false → 0 < length (candidatesOf (reducedBy reduction pixels) n)
+unfolding isSkipped pixelAt reducedBy isSeen
 some-candidate zero reduction pixels n bytes i h s =
-    some-in (pixelAt reduction pixels i) (candidatesOf reduction pixels n) (candidates-is reduction pixels bytes n .whole i h (drawn-opaque zero reduction pixels i s))
+    some-in (reducedBy reduction pixels i) (candidatesOf (reducedBy reduction pixels) n)
+    (candidates-is (reducedBy reduction pixels) (reduced-solid reduction pixels bytes) n .whole i h (ap not (or-split (isTransparent (reducedBy reduction pixels i .0)) _ s .0)))

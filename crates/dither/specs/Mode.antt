@@ -18,7 +18,7 @@ use Rattle.color.specs.Color.{bytesOf, transparentNormalized}
 use Rattle.color.specs.Tables.{normalizeColor}
 use Rattle.color.specs.Oklab.{floatsOf}
 use Rattle.picture.specs.Bounds.{sizeWrong, originWrong, tableWrong, sideWrong}
-use Rattle.picture.specs.Pixels.{isOpaque}
+use Rattle.picture.specs.Pixels.{reducedBy, isOpaque}
 use Rattle.conversion.specs.Oklab.{toOklab}
 use Rattle.patterns.specs.Kinds.{cellsNeeded}
 use Rattle.mixing.specs.Widths.{modeWrong, widthOf}
@@ -62,7 +62,7 @@ size q = q .settings .width * q .settings .height
 
 -- its candidates
 abbrev pub candidateList : Order → List ReducedColor
-candidateList q = candidatesOf (q .reduction) (q .pixels) (size q)
+candidateList q = candidatesOf (reducedBy (q .reduction) (q .pixels)) (size q)
 
 -- the bytes of a list of candidates, four each, and the Oklab of their full precision forms, three floats each
 unfoldable pub candidateBytes : List ReducedColor → List ℕ

@@ -11,7 +11,8 @@ use lib.ListN.{length}
 use Rattle.replies.specs.Replies.{firstReply, after}
 use Rattle.candidates.specs.declared.CandidateCount.{CandidateCount}
 use Rattle.candidates.specs.declared.CandidateCount.the-variants as counted
-use Rattle.candidates.specs.Calls.{Lent, candidatesIn, replies, answerOf, CandidateColors}
+use Rattle.candidates.specs.Calls as colors
+use Rattle.candidates.specs.Calls.{Asked, candidatesIn, placesAfter, oklabAfter, answerOf, CandidateColors}
 use Rattle.drawing.specs.Lent.{cellsAfter}
 use Rattle.dither.specs.declared.Dithered.{Dithered}
 use Rattle.dither.specs.declared.Dithered.the-variants.{Count, Over, Refused}
@@ -28,11 +29,13 @@ counting places oklab was (counted.Count k) = (0, places, oklab, k)
 counting places oklab was (counted.Refused n) = (n, places, oklab, was)
 
 -- where the answer r is the case y
-pub candidates-by-case : (x : Lent) (was : ℕ) {r y : CandidateCount} {places : List ℕ} {oklab : List Float} → CandidateColors x r places oklab → r ≡ y
+pub candidates-by-case : (x : Asked) (was : ℕ) {r y : CandidateCount} {places : List ℕ} {oklab : List Float} → CandidateColors x r places oklab → r ≡ y
     → counting places oklab was y ≡ badgeCandidateColorsIn x was
-candidates-by-case x was h e = (λ i. counting (h .bytes i) (h .floats i) was ((sym e ∙ h .answer) i)) ∙ by-number (firstReply (replies x)) _ _
+candidates-by-case x was {r} h e =
+    (λ i. counting (h .bytes i) (h .floats i) was ((sym e ∙ h .answer .answer) i)) ∙ by-number (colors.numberOf r) _ _
+    ∙ ap (λ (n : ℕ). (n, placesAfter x n, oklabAfter x n, after n (length (candidatesIn x)) was)) (h .answer .number)
   where
-    by-number : (n : ℕ) (bytes : List ℕ) (floats : List Float) → counting bytes floats was (answerOf n x) ≡ (n, bytes, floats, after n (length (candidatesIn x)) was)
+    by-number : (n : ℕ) (bytes : List ℕ) (floats : List Float) → counting bytes floats was (answerOf x n) ≡ (n, bytes, floats, after n (length (candidatesIn x)) was)
     by-number zero bytes floats = refl
     by-number (suc n) bytes floats = refl
 

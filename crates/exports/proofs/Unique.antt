@@ -5,7 +5,7 @@ use Prim.Native.Nat.{ℕ}
 use lib.Ieee.{Float}
 use Rattle.replies.specs.Unique.{Unique}
 use Rattle.replies.proofs.UniqueLaws.{equal-only}
-use Rattle.candidates.specs.Calls.{Lent}
+use Rattle.candidates.specs.Calls.{Asked}
 use Rattle.quantize.specs.Quantize.{Order}
 use Rattle.dither.specs.Mode as mode
 use Rattle.exports.specs.Answers.{badgeToOklab, badgeOklabSqdist, badgeOrderedThreshold, badgeBracketWidth, badgeLerp}
@@ -41,8 +41,8 @@ module _ (reduced normalized : List ℕ) (oklab : List Float) (r g b : ℕ) wher
 pub badge-pick-unique : (dark light : List ℕ) (ratio : Float) (kind column row : ℕ) (chosen : List ℕ) → Unique (λ (x : ℕ × List ℕ). x ≡ badgePick dark light ratio kind column row chosen)
 badge-pick-unique dark light ratio kind column row chosen = equal-only _
 
-pub badge-candidate-colors-in-unique : (lent : Lent) (count : ℕ) → Unique (λ (x : ℕ × List ℕ × List Float × ℕ). x ≡ badgeCandidateColorsIn lent count)
-badge-candidate-colors-in-unique lent count = equal-only _
+pub badge-candidate-colors-in-unique : (asked : Asked) (count : ℕ) → Unique (λ (x : ℕ × List ℕ × List Float × ℕ). x ≡ badgeCandidateColorsIn asked count)
+badge-candidate-colors-in-unique asked count = equal-only _
 
 pub badge-quantize-pixels-unique : (q : Order) (indices out : List ℕ) (cells : List Float)
     → Unique (λ (x : ℕ × List ℕ × List ℕ × List Float). x ≡ badgeQuantizePixels q indices out cells)

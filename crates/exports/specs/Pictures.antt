@@ -8,7 +8,7 @@ use lib.Dec.{eqb}
 use lib.Ieee.{Float}
 use lib.ListN.{length}
 use Rattle.replies.specs.Replies.{firstReply, after}
-use Rattle.candidates.specs.Calls.{Lent, candidatesIn, replies, placesAfter, oklabAfter}
+use Rattle.candidates.specs.Calls.{Asked, candidatesIn, replies, placesAfter, oklabAfter}
 use Rattle.color.specs.Color.{rgba}
 use Rattle.drawing.specs.declared.ColorZero.{ColorZero}
 use Rattle.drawing.specs.declared.ColorZero.the-variants.{Absent, Is}
@@ -19,15 +19,15 @@ use Rattle.dither.specs.Mode as mode
 use Rattle.dither.specs.Mode.{Buffers, buffers, candidateList, tileOver, leaves}
 
 -- ---- `badge_candidate_colors_in`: the number, the candidates' bytes and floats, and how many there are
--- what is lent, from its parts
-abbrev pub lentTo : (shift width height : ℕ) (reduction scale pixels places : List ℕ) → List Float → Lent
+-- what is asked, from its parts
+abbrev pub lentTo : (shift width height : ℕ) (reduction scale pixels places : List ℕ) → List Float → Asked
 lentTo shift width height reduction scale pixels places oklab =
     record { shift = shift; width = width; height = height; reduction = reduction; scale = scale; pixels = pixels; places = places; oklab = oklab }
 
-abbrev pub badgeCandidateColorsIn : Lent → ℕ → ℕ × List ℕ × List Float × ℕ
+abbrev pub badgeCandidateColorsIn : Asked → ℕ → ℕ × List ℕ × List Float × ℕ
 badgeCandidateColorsIn x count =
     let n = firstReply (replies x) in
-    (n, placesAfter n x, oklabAfter n x, after n (length (candidatesIn x)) count)
+    (n, placesAfter x n, oklabAfter x n, after n (length (candidatesIn x)) count)
 
 -- ---- `badge_quantize_pixels`: the number, the indices, the picture and the cells
 abbrev pub badgeQuantizePixels : Order → (indices out : List ℕ) → List Float → ℕ × List ℕ × List ℕ × List Float
