@@ -19,7 +19,8 @@ use Rattle.drawing.proofs.CandidateLaws.{list-fit}
 use Rattle.drawing.proofs.FinishedLaws as finished
 use Rattle.quantize.specs.declared.Quantization.{Quantization}
 use Rattle.quantize.specs.declared.Quantization.the-variants.{Accepted}
-use Rattle.quantize.specs.Quantize.{Commission, entries, size, quantizing, IndexOf, indexFor, indexAt, indexBytes, indicesOf, pixelsOf, numberOf, Quantized}
+use Rattle.quantize.specs.Quantize.{Commission, entries, size, quantizing, IndexOf, indexFor, indexAt, indexBytes, indicesOf, pixelsOf}
+use Rattle.quantize.specs.Quantize.{numberOf, Quantized}
 use Rattle.quantize.proofs.IndexLaws.{index-is}
 use Rattle.quantize.proofs.DrawnLaws.{chosen-among}
 

@@ -74,7 +74,8 @@ returns c =
     let l = c .before .loop in
     let a = c .before .before .before .before .before .before .before .args in
     let e : l .i ≡ a .size = omega (arith, l .inv .within) in
-    fill-done (l .inv) (omega arith) ∙ ap (λ (n : ℕ). gather n (λ j. index (a .reduction .now) (a .palette .now) (a .count) (a .pixels .now) (a .chosen .now) j ∷ [])) e
+    let own = index (a .reduction .now) (a .palette .now) (a .count) (a .pixels .now) (a .chosen .now) in
+    fill-done (l .inv) (omega arith) ∙ ap (λ (n : ℕ). gather n (λ j. own j ∷ [])) e
 
 pub put-indices-spec : {M : Type 1} → statement M
 put-indices-spec =

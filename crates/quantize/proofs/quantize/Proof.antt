@@ -36,7 +36,8 @@ front c =
 fit : (c : tie.After-put-list-oklab) → let q = asked (began c) in RangedList (paletteOklab q) (entries q)
 fit c =
     let q = asked (began c) in
-    let bytes : (k : ℕ) → getD (q .scale) k 0 < 256 = λ k. omega (arith, c .before .before .before .before .before .before .before .before .before .before .shared-slice-known2 .given k) in
+    let read = c .before .before .before .before .before .before .before .before .before .before in
+    let bytes : (k : ℕ) → getD (q .scale) k 0 < 256 = λ k. omega (arith, read .shared-slice-known2 .given k) in
     list-fit (q .scale) (reducedAt (q .palette)) (entries q) bytes
 
 -- where the drawing is called
