@@ -24,43 +24,49 @@ use Rattle.lists.proofs.DifferentLaws.{Equality, differing-same, many-if, many-
 equality : Equality sameReduced
 equality = record { equal = same→equal; self = same-self }
 
-module _ (opaque : ℕ → Bool) (color : ℕ → ReducedColor) (w h tw th : ℕ) where
+module _ (shown : ℕ → Bool) (color : ℕ → ReducedColor) (w h tw th : ℕ) where
   -- ---- over its limit
-  pub over-only : (limit t : ℕ) → T (isOver opaque color w h tw th limit t) → Many sameReduced (countsIn opaque w tw th t) color (w * h) (limit + 1)
+  pub over-only : (limit t : ℕ) → T (isOver shown color w h tw th limit t) → Many sameReduced (countsIn shown w tw th t) color (w * h) (limit + 1)
   unfolding isOver colorsIn
-  over-only limit t o = many-only equality (countsIn opaque w tw th t) color (w * h) (limit + 1) (omega (arith, ltb→lt limit (length (colorsIn opaque color w h tw th t)) o))
+  over-only limit t o =
+      many-only equality (countsIn shown w tw th t) color (w * h) (limit + 1) (omega (arith, ltb→lt limit (length (colorsIn shown color w h tw th t)) o))
 
-  pub over-if : (limit t : ℕ) → Many sameReduced (countsIn opaque w tw th t) color (w * h) (limit + 1) → T (isOver opaque color w h tw th limit t)
+  pub over-if : (limit t : ℕ) → Many sameReduced (countsIn shown w tw th t) color (w * h) (limit + 1) → T (isOver shown color w h tw th limit t)
   unfolding isOver colorsIn
-  over-if limit t m = lt→ltb limit (length (colorsIn opaque color w h tw th t)) (omega (arith, many-if equality (countsIn opaque w tw th t) color (w * h) (limit + 1) m))
+  over-if limit t m =
+      lt→ltb limit (length (colorsIn shown color w h tw th t)) (omega (arith, many-if equality (countsIn shown w tw th t) color (w * h) (limit + 1) m))
 
   -- ---- the answer
   module _ (limit : ℕ) where
-    pub judged-is : JudgedAs opaque color w h tw th limit (judgedOf opaque color w h tw th limit)
+    pub judged-is : JudgedAs shown color w h tw th limit (judgedOf shown color w h tw th limit)
     unfolding judgedOf verdictOf
-    judged-is = go (ltb (firstOver opaque color w h tw th limit) (tileCount w h tw th)) refl (first-is (isOver opaque color w h tw th limit) (tileCount w h tw th))
+    judged-is = go (ltb (firstOver shown color w h tw th limit) (tileCount w h tw th)) refl
+        (first-is (isOver shown color w h tw th limit) (tileCount w h tw th))
       where
-        go : (t : Bool) → ltb (firstOver opaque color w h tw th limit) (tileCount w h tw th) ≡ t → First (isOver opaque color w h tw th limit) (tileCount w h tw th) (firstOver opaque color w h tw th limit) → JudgedAs opaque color w h tw th limit (cond t (Over (firstOver opaque color w h tw th limit)) Fits)
-        go true e f = let l = ltb-true (firstOver opaque color w h tw th limit) (tileCount w h tw th) e in (l, f .passes l, f .before)
-        go false e f = λ t l. f .before t (lt-of-lt-of-le l (ltb-false (firstOver opaque color w h tw th limit) (tileCount w h tw th) e))
+        go : (t : Bool) → ltb (firstOver shown color w h tw th limit) (tileCount w h tw th) ≡ t
+            → First (isOver shown color w h tw th limit) (tileCount w h tw th) (firstOver shown color w h tw th limit)
+            → JudgedAs shown color w h tw th limit (cond t (Over (firstOver shown color w h tw th limit)) Fits)
+        go true e f = let l = ltb-true (firstOver shown color w h tw th limit) (tileCount w h tw th) e in (l, f .passes l, f .before)
+        go false e f = λ t l. f .before t (lt-of-lt-of-le l (ltb-false (firstOver shown color w h tw th limit) (tileCount w h tw th) e))
 
-    pub judged-only : Unique (JudgedAs opaque color w h tw th limit)
+    pub judged-only : Unique (JudgedAs shown color w h tw th limit)
     judged-only Fits Fits a b = refl
-    judged-only Fits (Over t) a b = absurd (T-not (isOver opaque color w h tw th limit t) (a t (b .0)) (b .1))
-    judged-only (Over t) Fits a b = absurd (T-not (isOver opaque color w h tw th limit t) (b t (a .0)) (a .1))
+    judged-only Fits (Over t) a b = absurd (T-not (isOver shown color w h tw th limit t) (a t (b .0)) (b .1))
+    judged-only (Over t) Fits a b = absurd (T-not (isOver shown color w h tw th limit t) (b t (a .0)) (a .1))
     judged-only (Over t) (Over u) a b = ap Over (first-only (first t a) (first u b))
       where
-        first : (t : ℕ) → JudgedAs opaque color w h tw th limit (Over t) → First (isOver opaque color w h tw th limit) (tileCount w h tw th) t
+        first : (t : ℕ) → JudgedAs shown color w h tw th limit (Over t) → First (isOver shown color w h tw th limit) (tileCount w h tw th) t
         first t a = record { inside = omega (arith, a .0); before = a .2; passes = λ _. a .1 }
 
--- two pictures with the same opaque pixels and the same colours
-module _ {opaque opaque′ : ℕ → Bool} {color color′ : ℕ → ReducedColor} (w h tw th : ℕ) (opaques : (i : ℕ) → i < w * h → opaque i ≡ opaque′ i) (colors : (i : ℕ) → i < w * h → color i ≡ color′ i) where
-  over-same : (limit t : ℕ) → isOver opaque color w h tw th limit t ≡ isOver opaque′ color′ w h tw th limit t
+-- two pictures of which the same pixels are not transparent, with the same colours
+module _ {shown shown′ : ℕ → Bool} {color color′ : ℕ → ReducedColor} (w h tw th : ℕ) (alike : (i : ℕ) → i < w * h → shown i ≡ shown′ i) (colors : (i : ℕ)
+    → i < w * h → color i ≡ color′ i) where
+  over-same : (limit t : ℕ) → isOver shown color w h tw th limit t ≡ isOver shown′ color′ w h tw th limit t
   unfolding isOver colorsIn countsIn
   over-same limit t =
       ap (λ (cs : List ReducedColor). ltb limit (length cs))
-      (differing-same sameReduced (countsIn opaque w tw th t) color (countsIn opaque′ w tw th t) color′ (w * h) (λ i l. rw (opaques i l)) colors)
+      (differing-same sameReduced (countsIn shown w tw th t) color (countsIn shown′ w tw th t) color′ (w * h) (λ i l. rw (alike i l)) colors)
 
-  pub judged-same : (limit : ℕ) → judgedOf opaque color w h tw th limit ≡ judgedOf opaque′ color′ w h tw th limit
+  pub judged-same : (limit : ℕ) → judgedOf shown color w h tw th limit ≡ judgedOf shown′ color′ w h tw th limit
   unfolding judgedOf
   judged-same limit = ap (λ (over : ℕ → Bool). verdictOf (firstThat over (tileCount w h tw th)) (tileCount w h tw th)) (λ i t. over-same limit t i)

@@ -17,7 +17,7 @@ use Rattle.color.specs.declared.ReducedColor.{ReducedColor}
 use Rattle.color.specs.Color.{sameReduced, rgba}
 use Rattle.color.proofs.Same.{same→equal, same-self}
 use Rattle.lists.specs.Different.{has, addNew}
-use Rattle.judging.specs.Keys.{colorOf, colorsOf, countWith, keysWith, Turned}
+use Rattle.judging.specs.Keys.{colorWithKey, colorsOf, countWith, keysWith, Turned}
 
 -- ---- colours as numbers
 -- a number from its lowest byte and what stands above it
@@ -31,48 +31,56 @@ module _ (r q : ℕ) (h : r < 256) where
   above : (r + 256 * q) / 256 ≡ q
   above = omega arith
 
-pub color-only : (k l : ℕ) → colorOf k ≡ colorOf l → k ≡ l
-unfolding colorOf
+pub color-only : (k l : ℕ) → colorWithKey k ≡ colorWithKey l → k ≡ l
+unfolding colorWithKey
 color-only k l e =
     joined k l (ap (λ (c : ReducedColor). c .0 .r) e)
     (joined (k / 256) (l / 256) (ap (λ (c : ReducedColor). c .0 .g) e)
     (joined (k / 256 / 256) (l / 256 / 256) (ap (λ (c : ReducedColor). c .0 .b) e) (ap (λ (c : ReducedColor). c .0 .a) e)))
 
 -- the number of four bytes
-of-bytes : (r g b a : ℕ) → r < 256 → g < 256 → b < 256 → colorOf (r + 256 * (g + 256 * (b + 256 * a))) ≡ record { 0 = rgba r g b a }
-unfolding colorOf
+of-bytes : (r g b a : ℕ) → r < 256 → g < 256 → b < 256 → colorWithKey (r + 256 * (g + 256 * (b + 256 * a))) ≡ record { 0 = rgba r g b a }
+unfolding colorWithKey
 of-bytes r g b a hr hg hb =
-    simp (above r (g + 256 * (b + 256 * a)) hr, above g (b + 256 * a) hg, above b a hb, lowest r (g + 256 * (b + 256 * a)) hr, lowest g (b + 256 * a) hg, lowest b a hb)
+    simp (
+      above r (g + 256 * (b + 256 * a)) hr,
+      above g (b + 256 * a) hg,
+      above b a hb,
+      lowest r (g + 256 * (b + 256 * a)) hr,
+      lowest g (b + 256 * a) hg,
+      lowest b a hb,
+    )
 
-pub color-of : (c d : Rgba8888) → c .r < 256 → c .g < 256 → c .b < 256 → c ≡ d → colorOf (c .r + 256 * (c .g + 256 * (c .b + 256 * c .a))) ≡ record { 0 = d }
+pub color-of : (c d : Rgba8888) → c .r < 256 → c .g < 256 → c .b < 256 → c ≡ d → colorWithKey (c .r + 256 * (c .g + 256 * (c .b + 256 * c .a))) ≡ record { 0 = d }
 color-of c d hr hg hb e = of-bytes (c .r) (c .g) (c .b) (c .a) hr hg hb ∙ (λ i. record { 0 = e i })
 
-same-key : (k l : ℕ) → sameReduced (colorOf k) (colorOf l) ≡ eqb k l
-same-key k l = go (eqb k l) refl (sameReduced (colorOf k) (colorOf l)) refl
+same-key : (k l : ℕ) → sameReduced (colorWithKey k) (colorWithKey l) ≡ eqb k l
+same-key k l = go (eqb k l) refl (sameReduced (colorWithKey k) (colorWithKey l)) refl
   where
-    go : (s : Bool) → eqb k l ≡ s → (t : Bool) → sameReduced (colorOf k) (colorOf l) ≡ t → t ≡ s
+    go : (s : Bool) → eqb k l ≡ s → (t : Bool) → sameReduced (colorWithKey k) (colorWithKey l) ≡ t → t ≡ s
     go true e true f = refl
     go false e false f = refl
-    go false e true f = absurd (eqb-false k l e (color-only k l (same→equal (colorOf k) (colorOf l) f)))
-    go true e false f = absurd (clash (subst (λ (m : ℕ). sameReduced (colorOf k) (colorOf m) ≡ true) (eqb-true k l e) (same-self (colorOf k))) f)
+    go false e true f = absurd (eqb-false k l e (color-only k l (same→equal (colorWithKey k) (colorWithKey l) f)))
+    go true e false f = absurd (clash (subst (λ (m : ℕ). sameReduced (colorWithKey k) (colorWithKey m) ≡ true) (eqb-true k l e) (same-self (colorWithKey k))) f)
 
-has-color : (key : ℕ) (keys : List ℕ) → has sameReduced (colorOf key) (map colorOf keys) ≡ has eqb key keys
+has-color : (key : ℕ) (keys : List ℕ) → has sameReduced (colorWithKey key) (map colorWithKey keys) ≡ has eqb key keys
 unfolding has
 has-color key [] = refl
 has-color key (k ∷ keys) = rw (same-key, has-color key keys)
 
 -- ---- one number more
 module _ (key : ℕ) (keys : List ℕ) (n : ℕ) (h : n < length keys) where
-  pub colors-with : colorsOf (keysWith key keys n) (countWith key keys n) ≡ addNew sameReduced (colorOf key) (colorsOf keys n)
+  pub colors-with : colorsOf (keysWith key keys n) (countWith key keys n) ≡ addNew sameReduced (colorWithKey key) (colorsOf keys n)
   unfolding addNew keysWith countWith
   colors-with = rw has-color (go (has eqb key (take n keys)))
     where
-      go : (t : Bool) → map colorOf (take (cond t n (n + 1)) (cond t keys (set keys n key))) ≡ cond t (map colorOf (take n keys)) (map colorOf (take n keys) ++ (colorOf key ∷ []))
+      go : (t : Bool) → map colorWithKey (take (cond t n (n + 1)) (cond t keys (set keys n key))) ≡ cond t (map colorWithKey (take n keys))
+          (map colorWithKey (take n keys) ++ (colorWithKey key ∷ []))
       go true = refl
       go false =
-          ap (λ (m : ℕ). map colorOf (take m (set keys n key))) (add-one n)
-          ∙ ap (map colorOf) (take-suc-set keys n key h)
-          ∙ map-append colorOf (take n keys) (key ∷ [])
+          ap (λ (m : ℕ). map colorWithKey (take m (set keys n key))) (add-one n)
+          ∙ ap (map colorWithKey) (take-suc-set keys n key h)
+          ∙ map-append colorWithKey (take n keys) (key ∷ [])
 
   pub long-with : length (keysWith key keys n) ≡ length keys
   unfolding keysWith
@@ -101,11 +109,12 @@ module _ (key : ℕ) (keys : List ℕ) (n : ℕ) (h : n < length keys) where
 
 -- ---- a pixel's turn
 count-is : (keys : List ℕ) (n : ℕ) → n ≤ length keys → n ≡ length (colorsOf keys n)
-count-is keys n h = sym (length-map (take n keys) colorOf ∙ length-take-le n keys h)
+count-is keys n h = sym (length-map (take n keys) colorWithKey ∙ length-take-le n keys h)
 
-module _ {opaque : Bool} {color : ReducedColor} {keys : List ℕ} {n : ℕ} (h : n < length keys) where
-  pub turned-opaque : (key : ℕ) {keys′ : List ℕ} {m : ℕ} → opaque ≡ true → colorOf key ≡ color → (m ≡ countWith key keys n) × (keys′ ≡ keysWith key keys n) → Turned opaque color keys n keys′ m
-  turned-opaque key {keys′} {m} o e (em, ek) =
+module _ {shown : Bool} {color : ReducedColor} {keys : List ℕ} {n : ℕ} (h : n < length keys) where
+  pub turned-shown : (key : ℕ) {keys′ : List ℕ} {m : ℕ} → shown ≡ true → colorWithKey key ≡ color → (m ≡ countWith key keys n) × (keys′ ≡ keysWith key keys n)
+      → Turned shown color keys n keys′ m
+  turned-shown key {keys′} {m} o e (em, ek) =
       let long : length keys′ ≡ length keys = ap length ek ∙ long-with key keys n h in
       record {
         colors = rw (ek, em, o, ← e) (colors-with key keys n h);
@@ -113,7 +122,7 @@ module _ {opaque : Bool} {color : ReducedColor} {keys : List ℕ} {n : ℕ} (h :
         same = long;
       }
 
-  pub turned-not : opaque ≡ false → Turned opaque color keys n keys n
+  pub turned-not : shown ≡ false → Turned shown color keys n keys n
   turned-not o = record { colors = rw o; count = count-is keys n (omega arith); same = refl }
 
 -- ---- a search among the first n numbers: whether the number is among those from position j on

@@ -2,7 +2,9 @@
 -- picture. The tile at a row and a column of tiles is `Place`. Assumes nothing.
 use mathlib.Core.Path.{_≡_, sym, ap, _∙_, subst}
 use Prim.Native.Nat.{ℕ, _+_, _-_, _*_, _/_, _%_, _≤_, _<_}
-use native.Mathlib.Nat.{add-zero, mul-comm, mul-suc, add-mul, one-mul, mul-le-mul, mul-le-mul-left, mul-le-mul-right, div-le-self, div-mul-le-self, lt-div-mul-add, div-lt-iff-lt-mul, div-eq-of-lt, div-eq-of-lt-le, mul-add-div, mul-add-div-right, mul-add-mod-self-left, mul-add-mod-self-right, mod-eq-of-lt, mod-lt}
+use native.Mathlib.Nat.{add-zero, mul-comm, mul-suc, add-mul, one-mul, mul-le-mul, mul-le-mul-left, mul-le-mul-right, div-le-self, div-mul-le-self}
+use native.Mathlib.Nat.{lt-div-mul-add, div-lt-iff-lt-mul, div-eq-of-lt, div-eq-of-lt-le, mul-add-div}
+use native.Mathlib.Nat.{mul-add-div-right, mul-add-mod-self-left, mul-add-mod-self-right, mod-eq-of-lt, mod-lt}
 use native.Mathlib.Numerals.{add-one}
 use native.Mathlib.Omega.{arith}
 use Rattle.judging.specs.Tiles.{tilesOver, tileCount, tileOf}

@@ -29,17 +29,18 @@ tileOf w tw th i = tilesOver w tw * (i / w / th) + i % w / tw
 
 -- pixel i is one of tile t's, and not transparent
 unfoldable pub countsIn : (ℕ → Bool) → ℕ → ℕ → ℕ → ℕ → ℕ → Bool
-countsIn opaque w tw th t i = eqb (tileOf w tw th i) t && opaque i
+countsIn shown w tw th t i = eqb (tileOf w tw th i) t && shown i
 
 -- the answer from the first tile that is over its limit, or the number of tiles where none is
 unfoldable pub verdictOf : ℕ → ℕ → Judged
 verdictOf first tiles = cond (ltb first tiles) (Over first) Fits
 
--- of a picture: which pixels are not transparent, their chosen reduced colours, its width and height, and a tile's
-module _ (opaque : ℕ → Bool) (color : ℕ → ReducedColor) (w h tw th : ℕ) where
+-- of a picture: which pixels are not transparent (of `reduced`, its reduced colours: `isSeen reduced`), their chosen reduced colours, its width and
+-- height, and a tile's
+module _ (shown : ℕ → Bool) (color : ℕ → ReducedColor) (w h tw th : ℕ) where
   -- the different chosen reduced colours of tile t's non-transparent pixels
   unfoldable pub colorsIn : ℕ → List ReducedColor
-  colorsIn t = differing sameReduced (countsIn opaque w tw th t) color (w * h)
+  colorsIn t = differing sameReduced (countsIn shown w tw th t) color (w * h)
 
   -- tile t has more of them than the limit
   unfoldable pub isOver : ℕ → ℕ → Bool
@@ -58,9 +59,10 @@ module _ (opaque : ℕ → Bool) (color : ℕ → ReducedColor) (w h tw th : ℕ
   JudgedAs limit Fits = (t : ℕ) → t < tileCount w h tw th → T (not (isOver limit t))
   JudgedAs limit (Over t) = (t < tileCount w h tw th) × T (isOver limit t) × ((k : ℕ) → k < t → T (not (isOver limit k)))
 
--- what `judge` asks of its caller: whole buffers, and the bounds of sides and limit
-pub record Judgeable (reduced pixels : List ℕ) (w h tw th limit : ℕ) : Type 0 where
-  pub chosen : length reduced ≡ 4 * (w * h)
+-- what `judge` asks of its caller: whole buffers, a whole table, and the bounds of sides and limit
+pub record Judgeable (colors reduction pixels : List ℕ) (w h tw th limit : ℕ) : Type 0 where
+  pub chosen : length colors ≡ 4 * (w * h)
+  pub table : length reduction ≡ 256
   pub lent : length pixels ≡ 4 * (w * h)
   pub wide : w ≤ 4096
   pub high : h ≤ 4096

@@ -5,9 +5,9 @@ ghost use Prim.Native.Nat.{_+_, _*_, _≤_, _<_, min};
 ghost use lib.ListN.{length, take};
 ghost use lib.Dec.{eqb};
 ghost use Rattle.color.specs.Color.{reducedAt};
-ghost use Rattle.picture.specs.Pixels.{isOpaque};
+ghost use Rattle.picture.specs.Pixels.{reducedBy, isSeen};
 ghost use Rattle.lists.specs.Different.{has};
-ghost use Rattle.judging.specs.Keys.{colorOf, countWith, keysWith, Turned};
+ghost use Rattle.judging.specs.Keys.{colorWithKey, countWith, keysWith, Turned};
 ghost use Rattle.judging.specs.Tiles.{tilesOver, verdictOf, judgedOf, Judgeable};
 
 // Whether every tile keeps to the limit, or the number of the first that does not.
@@ -19,11 +19,11 @@ pub enum Judged {
 // ---- a tile's colours
 
 // A pixel's chosen colour as a number, red lowest.
-fn key_at(reduced: &[u8], i: usize) -> u32
-    requires { ⌜ 4 * i + 3 < length (now reduced) ⌝ }
-    ensures { λ k. ⌜ colorOf k ≡ reducedAt (now (reduced .entry)) i ⌝ }
+fn key_at(chosen: &[u8], i: usize) -> u32
+    requires { ⌜ 4 * i + 3 < length (now chosen) ⌝ }
+    ensures { λ k. ⌜ colorWithKey k ≡ reducedAt (now (chosen .entry)) i ⌝ }
 {
-    let c = color::rgba_at(reduced, i);
+    let c = color::rgba_at(chosen, i);
     c.r as u32 + 256 * (c.g as u32 + 256 * (c.b as u32 + 256 * (c.a as u32)))
 }
 
@@ -55,12 +55,21 @@ fn add_key(keys: &mut [u32], count: u32, key: u32) -> u32
 }
 
 // A pixel's turn: its colour joins those of its tile, unless the pixel is transparent or the colour is there already.
-fn add_pixel(reduced: &[u8], pixels: &[u8], i: usize, keys: &mut [u32], count: u32) -> u32
-    requires { ⌜ (4 * i + 3 < length (now reduced)) × (4 * i + 3 < length (now pixels)) × (count < length (now keys)) × (length (now keys) ≡ 257) ⌝ }
-    ensures { λ n. ⌜ Turned (isOpaque (now (pixels .entry)) i) (reducedAt (now (reduced .entry)) i) (now (keys .entry)) count (now (keys .exit)) n ⌝ }
+fn add_pixel(
+    chosen: &[u8],
+    reduction: &[u8],
+    pixels: &[u8],
+    i: usize,
+    keys: &mut [u32],
+    count: u32,
+) -> u32
+    requires { ⌜ (4 * i + 3 < length (now chosen)) × (length (now reduction) ≡ 256) × (4 * i + 3 < length (now pixels)) × (count < length (now keys))
+        × (length (now keys) ≡ 257) ⌝ }
+    ensures { λ n. ⌜ Turned (isSeen (reducedBy (now (reduction .entry)) (now (pixels .entry))) i) (reducedAt (now (chosen .entry)) i)
+        (now (keys .entry)) count (now (keys .exit)) n ⌝ }
 {
-    if picture::is_opaque(pixels, i) {
-        return add_key(keys, count, key_at(reduced, i));
+    if picture::is_seen(reduction, pixels, i) {
+        return add_key(keys, count, key_at(chosen, i));
     }
     count
 }
@@ -98,7 +107,8 @@ fn verdict(tile: u32, tiles: u32) -> Judged
 
 // The scan: tile rows, tiles, rows and pixels, left with the tile's number at the first pixel that overfills its tile.
 fn scan(
-    reduced: &[u8],
+    chosen: &[u8],
+    reduction: &[u8],
     pixels: &[u8],
     width: u32,
     height: u32,
@@ -107,8 +117,9 @@ fn scan(
     limit: u32,
     keys: &mut [u32],
 ) -> Judged
-    requires { ⌜ Judgeable (now reduced) (now pixels) width height «tile_width» «tile_height» limit × (length (now keys) ≡ 257) ⌝ }
-    ensures { λ r. ⌜ r ≡ judgedOf (isOpaque (now (pixels .entry))) (reducedAt (now (reduced .entry))) width height «tile_width» «tile_height» limit ⌝ }
+    requires { ⌜ Judgeable (now chosen) (now reduction) (now pixels) width height «tile_width» «tile_height» limit × (length (now keys) ≡ 257) ⌝ }
+    ensures { λ r. ⌜ r ≡ judgedOf (isSeen (reducedBy (now (reduction .entry)) (now (pixels .entry)))) (reducedAt (now (chosen .entry)))
+        width height «tile_width» «tile_height» limit ⌝ }
 {
     let across = tiles_over(width, tile_width);
     let down = tiles_over(height, tile_height);
@@ -127,7 +138,14 @@ fn scan(
             while y < y_end {
                 let mut x = tile_x;
                 while x < x_end {
-                    count = add_pixel(reduced, pixels, (y * width + x) as usize, keys, count);
+                    count = add_pixel(
+                        chosen,
+                        reduction,
+                        pixels,
+                        (y * width + x) as usize,
+                        keys,
+                        count,
+                    );
                     if limit < count {
                         break 'tiles;
                     }
@@ -143,10 +161,11 @@ fn scan(
     verdict(tile, across * down)
 }
 
-// Judges the chosen reduced colours of a picture, four bytes a pixel, against the tile limit; `pixels` is the source, which says
-// what is transparent. No public call: the caller sees to the lengths and bounds.
+// Judges the chosen reduced colours of a picture, four bytes a pixel, against the tile limit; `pixels` is the source, which by
+// the reduction table says what is transparent. No public call: the caller sees to the lengths and bounds.
 pub fn judge(
-    reduced: &[u8],
+    chosen: &[u8],
+    reduction: &[u8],
     pixels: &[u8],
     width: u32,
     height: u32,
@@ -154,13 +173,15 @@ pub fn judge(
     tile_height: u32,
     limit: u32,
 ) -> Judged
-    requires { ⌜ Judgeable (now reduced) (now pixels) width height «tile_width» «tile_height» limit ⌝ }
-    ensures { λ r. ⌜ r ≡ judgedOf (isOpaque (now (pixels .entry))) (reducedAt (now (reduced .entry))) width height «tile_width» «tile_height» limit ⌝ }
+    requires { ⌜ Judgeable (now chosen) (now reduction) (now pixels) width height «tile_width» «tile_height» limit ⌝ }
+    ensures { λ r. ⌜ r ≡ judgedOf (isSeen (reducedBy (now (reduction .entry)) (now (pixels .entry)))) (reducedAt (now (chosen .entry)))
+        width height «tile_width» «tile_height» limit ⌝ }
 {
     // One place more than the largest limit: the colour that overfills a tile has a place too.
     let mut keys = [0u32; 257];
     scan(
-        reduced,
+        chosen,
+        reduction,
         pixels,
         width,
         height,

@@ -1,20 +1,14 @@
 // What the flat calls refuse.
+use super::count_fits;
 use color::in_range;
 ghost use mathlib.Core.Path.{_≡_};
-ghost use Rattle.lookup.specs.Lists.{lengthsFit, countFits, firstOutside, listNumber};
+ghost use Rattle.lookup.specs.Lists.{lengthsFit, firstOutside, listNumber};
 
 // Four bytes an entry in both lists of bytes, three floats an entry.
 fn lengths_fit(reduced: usize, normalized: usize, oklab: usize) -> bool
     ensures { λ t. ⌜ t ≡ lengthsFit reduced normalized oklab ⌝ }
 {
     (reduced % 4 == 0) & ((normalized == reduced) & (oklab == 3 * (reduced / 4)))
-}
-
-// From 1 to 65,536 entries.
-fn count_fits(count: usize) -> bool
-    ensures { λ t. ⌜ t ≡ countFits count ⌝ }
-{
-    (0 < count) & !(65536 < count)
 }
 
 // The first component that is not from -2 to 2; the length where all are.

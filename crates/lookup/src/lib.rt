@@ -16,8 +16,16 @@ use patterns::Thresholded;
 use patterns::ordered_threshold;
 use shortlist::near::nearest_position;
 ghost use mathlib.Core.Path.{_≡_};
+ghost use Rattle.lookup.specs.Lists.{countFits};
 ghost use Rattle.lookup.specs.Bracket.{solidAt, pickAt, pickOf};
 ghost use Rattle.lookup.specs.Answers.{nearestAnswer, nearestTwoAnswer, bracketAnswer};
+
+// From 1 to 65,536 entries: what a lookup takes.
+pub fn count_fits(count: usize) -> bool
+    ensures { λ t. ⌜ t ≡ countFits count ⌝ }
+{
+    (0 < count) & !(65536 < count)
+}
 
 // ---- what the lookups answer
 

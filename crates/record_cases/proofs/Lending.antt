@@ -57,8 +57,10 @@ module _ {M : Type 1} (𝓤 : URA M) (H : Heap 𝓤) (A : Atoms 𝓤) (W : Given
   lays : Is Whole xs (arrayOf xs ∷ []) → ent 𝓤 (sem 𝓤 H A (fat fullShare (typeOf m) b 0 (arrayOf xs))) (sem 𝓤 H A (Elements m xs b 0))
   unfolding partOf
   lays g =
-      qed W (‵ (fat fullShare (typeOf m) b 0 (arrayOf xs)) ∷ []) ∵ use1 W (‵ (cellAt fullShare (Whole .mir) (arrayOf xs ∷ []) b 0)) (W .laws .at-raw fullShare (typeOf m) b 0 (arrayOf xs)) $
-      owned ! Whole (Is Whole) (array-makes 𝓤 H A W T.the-row (LL.makes T.the-type T′.the-plain 𝓤 H A) m) xs (arrayOf xs ∷ []) g $ move ! (1 ∷ 0 ∷ []) $ fjoin ! $
+      qed W (‵ (fat fullShare (typeOf m) b 0 (arrayOf xs)) ∷ []) ∵ use1 W (‵ (cellAt fullShare (Whole .mir) (arrayOf xs ∷ []) b 0))
+      (W .laws .at-raw fullShare (typeOf m) b 0 (arrayOf xs)) $
+      owned ! Whole (Is Whole) (array-makes 𝓤 H A W T.the-row (LL.makes T.the-type T′.the-plain 𝓤 H A) m) xs (arrayOf xs ∷ []) g $ move ! (1 ∷ 0 ∷ []) $
+      fjoin ! $
       fpack ! (List Val) (λ us. fsep (cellAt fullShare (Whole .mir) us b 0) (Whole .own xs us)) (arrayOf xs ∷ []) $
       use1 W (‵ (Elements m xs b 0)) (array-apart 𝓤 H A W T.the-row fullShare tt m xs b 0) $ done !
 
@@ -67,18 +69,23 @@ module _ {M : Type 1} (𝓤 : URA M) (H : Heap 𝓤) (A : Atoms 𝓤) (W : Given
   clears =
       qed W (‵ (Elements m xs b 0) ∷ []) ∵ use1 W (‵ (partAt Whole fullShare xs b 0)) (array-whole 𝓤 H A W T.the-row fullShare m xs b 0) $
       fpick ! (λ vs. fsplit ! $ move ! (1 ∷ []) $ peeks ! Whole (Is Whole) (shows 𝓤 H A Whole) xs vs (λ p. drop ! $
-      rewrite ! 0 (λ (us : List Val). ‵ (cellAt fullShare (Whole .mir) us b 0)) (array-tells T.the-row (LL.vals T.the-type T′.the-laws) (LL.tells T.the-type T′.the-laws) m xs vs p) refl $
-      use1 W (‵ (froom (typeOf m) b 0)) (via 𝓤 (H .at fullShare (typeOf m) b 0 (arrayOf xs)) (W .laws .raw-at fullShare (typeOf m) b 0 (arrayOf xs)) (W .laws .at-room (typeOf m) b 0 (arrayOf xs))) $ done !))
+      rewrite ! 0 (λ (us : List Val). ‵ (cellAt fullShare (Whole .mir) us b 0))
+      (array-tells T.the-row (LL.vals T.the-type T′.the-laws) (LL.tells T.the-type T′.the-laws) m xs vs p) refl $
+      use1 W (‵ (froom (typeOf m) b 0)) (via 𝓤 (H .at fullShare (typeOf m) b 0 (arrayOf xs)) (W .laws .raw-at fullShare (typeOf m) b 0 (arrayOf xs))
+      (W .laws .at-room (typeOf m) b 0 (arrayOf xs))) $ done !))
 
   -- ---- the elements, cut in two and joined
   cuts : (n : ℕ) → ent 𝓤 (sem 𝓤 H A (Elements m xs b 0)) (sep 𝓤 (sem 𝓤 H A (First n xs b)) (sem 𝓤 H A (Rest n xs b)))
   cuts n =
       let k = at 0 (mem T.the-row .size) (length (take n xs)) in
       qed W (‵ (Elements m xs b 0) ∷ []) {P = sep 𝓤 (sem 𝓤 H A (First n xs b)) (sem 𝓤 H A (Rest n xs b))} (
-      fsplit ! $ drop ! $ rewrite ! 0 (λ (F : Fml). ‵ F) (parts-cells T.the-row fullShare xs b 0) refl $ rewrite ! 0 (λ (ys : List CandidateColor). ‵ (Parts ys 0)) (sym (take-append-drop n xs)) refl $
+      fsplit ! $ drop ! $ rewrite ! 0 (λ (F : Fml). ‵ F) (parts-cells T.the-row fullShare xs b 0) refl $
+      rewrite ! 0 (λ (ys : List CandidateColor). ‵ (Parts ys 0)) (sym (take-append-drop n xs)) refl $
       use1 W (‵ (Parts (take n xs) 0) ⊛ ‵ (Parts (drop-list n xs) k)) (cut-app 𝓤 H A (Sh T.the-row fullShare) (take n xs) (drop-list n xs) b 0) $ split ! $
-      rewrite ! 0 (λ (F : Fml). ‵ F) (sym (parts-cells T.the-row fullShare (take n xs) b 0)) refl $ feqI ! ℕ (length (take n xs)) (length (take n xs)) refl $ fjoin ! $ move ! (1 ∷ []) $
-      rewrite ! 0 (λ (F : Fml). ‵ F) (sym (parts-cells T.the-row fullShare (drop-list n xs) b k)) refl $ feqI ! ℕ (length (drop-list n xs)) (length (drop-list n xs)) refl $ fjoin ! $ move ! (1 ∷ 0 ∷ []) $ done !)
+      rewrite ! 0 (λ (F : Fml). ‵ F) (sym (parts-cells T.the-row fullShare (take n xs) b 0)) refl $ feqI ! ℕ (length (take n xs)) (length (take n xs)) refl $
+      fjoin ! $ move ! (1 ∷ []) $
+      rewrite ! 0 (λ (F : Fml). ‵ F) (sym (parts-cells T.the-row fullShare (drop-list n xs) b k)) refl $
+      feqI ! ℕ (length (drop-list n xs)) (length (drop-list n xs)) refl $ fjoin ! $ move ! (1 ∷ 0 ∷ []) $ done !)
 
   joins : (n : ℕ) → length xs ≡ m → ent 𝓤 (sep 𝓤 (sem 𝓤 H A (First n xs b)) (sem 𝓤 H A (Rest n xs b))) (sem 𝓤 H A (Elements m xs b 0))
   joins n long =
@@ -87,11 +94,13 @@ module _ {M : Type 1} (𝓤 : URA M) (H : Heap 𝓤) (A : Atoms 𝓤) (W : Given
       fsplit ! $ drop ! $ rewrite ! 0 (λ (F : Fml). ‵ F) (parts-cells T.the-row fullShare (take n xs) b 0) refl $ move ! (1 ∷ []) $ fsplit ! $ drop ! $
       rewrite ! 0 (λ (F : Fml). ‵ F) (parts-cells T.the-row fullShare (drop-list n xs) b k) refl $ move ! (1 ∷ 0 ∷ []) $
       use2 W (‵ (Parts (take n xs ++ drop-list n xs) 0)) (join-app 𝓤 H A (Sh T.the-row fullShare) (take n xs) (drop-list n xs) b 0) $
-      rewrite ! 0 (λ (ys : List CandidateColor). ‵ (Parts ys 0)) (take-append-drop n xs) refl $ rewrite ! 0 (λ (F : Fml). ‵ F) (sym (parts-cells T.the-row fullShare xs b 0)) refl $
+      rewrite ! 0 (λ (ys : List CandidateColor). ‵ (Parts ys 0)) (take-append-drop n xs) refl $
+      rewrite ! 0 (λ (F : Fml). ‵ F) (sym (parts-cells T.the-row fullShare xs b 0)) refl $
       feqI ! ℕ (length xs) m long $ fjoin ! $ done !)
 
   -- ---- both steps at once
-  pub lays-first : (n : ℕ) → Is Whole xs (arrayOf xs ∷ []) → ent 𝓤 (sem 𝓤 H A (fat fullShare (typeOf m) b 0 (arrayOf xs))) (sep 𝓤 (sem 𝓤 H A (First n xs b)) (sem 𝓤 H A (Rest n xs b)))
+  pub lays-first : (n : ℕ) → Is Whole xs (arrayOf xs ∷ []) → ent 𝓤 (sem 𝓤 H A (fat fullShare (typeOf m) b 0 (arrayOf xs)))
+      (sep 𝓤 (sem 𝓤 H A (First n xs b)) (sem 𝓤 H A (Rest n xs b)))
   lays-first n g = via 𝓤 (sem 𝓤 H A (Elements m xs b 0)) (lays g) (cuts n)
 
   pub clears-all : (n : ℕ) → length xs ≡ m → ent 𝓤 (sep 𝓤 (sem 𝓤 H A (First n xs b)) (sem 𝓤 H A (Rest n xs b))) (sem 𝓤 H A (froom (typeOf m) b 0))

@@ -8,12 +8,14 @@ use Rattle.color.specs.declared.NormalizedColor.{NormalizedColor}
 use Rattle.lookup.specs.declared.FoundBracket.{FoundBracket}
 use Rattle.records.specs.declared.FoundRecord.{FoundRecord}
 use Rattle.records.specs.declared.FoundRecords.{FoundRecords}
-use Rattle.records.specs.Answers.{nearestRecord, nearestTwoRecords, recordsBracket}
-use Rattle.record_cases.specs.declared.Answers.{Answers}
+use Rattle.records.specs.Answers.{NearestRecord, NearestTwoRecords, RecordsBracket}
+use Rattle.record_cases.specs.declared.Three.{Three}
 
-abbrev pub answersOf : FoundRecord → FoundRecords → FoundBracket → Answers
-answersOf near two bracket = record { near = near; two = two; bracket = bracket }
+abbrev pub threeOf : FoundRecord → FoundRecords → FoundBracket → Three
+threeOf near two bracket = record { near = near; two = two; bracket = bracket }
 
--- the answers on a list
-abbrev pub answersFrom : List CandidateColor → NormalizedColor → ℕ → Answers
-answersFrom list color width = answersOf (nearestRecord list color) (nearestTwoRecords list color width) (recordsBracket list color width)
+-- each is what its lookup promises on the list
+pub record Asked (list : List CandidateColor) (color : NormalizedColor) (width : ℕ) (r : Three) : Type 0 where
+  pub near : NearestRecord list color (r .near)
+  pub two : NearestTwoRecords list color width (r .two)
+  pub bracket : RecordsBracket list color width (r .bracket)

@@ -22,7 +22,7 @@ use records::FoundRecords;
 ghost use mathlib.Core.Path.{_≡_};
 ghost use Prim.Native.Nat.{_≤_};
 ghost use lib.ListN.{take};
-ghost use Rattle.record_cases.specs.Asked.{answersOf, answersFrom};
+ghost use Rattle.record_cases.specs.Asked.{threeOf, Asked};
 
 // ---- the list of a case
 
@@ -79,23 +79,23 @@ fn is_list(room: &[u8]) -> bool {
 // ---- the lookups
 
 // What the three lookups answer.
-pub struct Answers {
+pub struct Three {
     pub near: FoundRecord,
     pub two: FoundRecords,
     pub bracket: FoundBracket,
 }
 
-fn together(near: FoundRecord, two: FoundRecords, bracket: FoundBracket) -> Answers
-    ensures { λ r. ⌜ r ≡ answersOf near two bracket ⌝ }
+fn together(near: FoundRecord, two: FoundRecords, bracket: FoundBracket) -> Three
+    ensures { λ r. ⌜ r ≡ threeOf near two bracket ⌝ }
 {
-    Answers { near, two, bracket }
+    Three { near, two, bracket }
 }
 
 // Asks the lookups about the first n records. No other function here lends a list of records: the borrow checker covers
 // none that does, so this one is proved by hand.
-fn asked(list: [CandidateColor; 300], n: usize, color: NormalizedColor, width: u64) -> Answers
+fn asked(list: [CandidateColor; 300], n: usize, color: NormalizedColor, width: u64) -> Three
     requires { ⌜ n ≤ 300 ⌝ }
-    ensures { λ r. ⌜ r ≡ answersFrom (take n list) color width ⌝ }
+    ensures { λ r. ⌜ Asked (take n list) color width r ⌝ }
 {
     let first = &list[..n];
     let near = records::nearest(first, color);
@@ -104,7 +104,7 @@ fn asked(list: [CandidateColor; 300], n: usize, color: NormalizedColor, width: u
     together(near, two, bracket)
 }
 
-fn answers_on(room: &[u8], width: u64) -> Answers {
+fn answers_on(room: &[u8], width: u64) -> Three {
     let n = up_to(part(room, 0).len() / 4, 300);
     let color = cases::color_at(part(room, 3), 0);
     asked(records_of(room), n, color, width)

@@ -1,31 +1,43 @@
 -- The lookups over records and the flat lookups agree on the same list: taken apart, the list has the same number, and the flat answer's positions are
 -- those of the records answered. Assumes nothing.
-use mathlib.Core.Path.{_≡_, refl, _∙_}
+use mathlib.Core.Path.{_≡_, refl, sym, ap, _∙_}
 use mathlib.Core.List.{List}
 use Prim.Native.Nat.{ℕ, zero, suc}
+use lib.Ieee.{Float}
 use Rattle.replies.specs.Replies.{after}
+use Rattle.replies.proofs.AnswerLaws.{answered}
 use Rattle.color.specs.declared.CandidateColor.{CandidateColor}
 use Rattle.color.specs.declared.NormalizedColor.{NormalizedColor}
 use Rattle.conversion.specs.Oklab.{toOklab}
 use Rattle.shortlist.specs.Candidates.{Candidates, flat}
 use Rattle.shortlist.specs.Nearest.{nearestOf}
+use Rattle.lookup.specs.declared.Found.{Found}
 use Rattle.lookup.specs.declared.Found.the-variants as found
+use Rattle.lookup.specs.declared.FoundTwo.{FoundTwo}
 use Rattle.lookup.specs.declared.FoundTwo.the-variants as two
+use Rattle.lookup.specs.declared.FoundBracket.{FoundBracket}
 use Rattle.lookup.specs.declared.FoundBracket.the-variants as bracket
 use Rattle.lookup.specs.Second.{nearestTwoOf}
 use Rattle.lookup.specs.Bracket.{bracketOf}
 use Rattle.lookup.specs.Lists.{listNumber}
 use Rattle.lookup.specs.Answers.{nearestAnswer, nearestTwoAnswer, bracketAnswer}
+use Rattle.records.specs.declared.FoundRecord.{FoundRecord}
 use Rattle.records.specs.declared.FoundRecord.the-variants as one
-use Rattle.records.specs.declared.FoundRecords.the-variants as both
-use Rattle.records.specs.Lists.{recordAt, reducedBytes, normalizedBytes, oklabFloats}
-use Rattle.records.specs.Answers.{recordsAt, foundIn, foundTwoIn, nearestRecord, nearestTwoRecords, recordsBracket}
+use Rattle.records.specs.declared.FoundRecords.{FoundRecords}
+use Rattle.records.specs.Lists.{recordAt, recordsNumber, numberBy, reducedBytes, normalizedBytes, oklabFloats}
+use Rattle.records.specs.Answers.{nearestRecordAnswer, recordsAt, nearestTwoRecordsAnswer, recordsBracketAnswer}
+use Rattle.records.specs.Answers.{NearestRecord, NearestTwoRecords, RecordsBracket, foundIn, foundTwoIn}
 use Rattle.records.proofs.FlatLaws.{flat-is, number-agrees}
 
--- an answer by its number, under a function
-through : {A B : Type 0} (f : A → B) (n : ℕ) (x y : A) → f (after n x y) ≡ after n (f x) (f y)
-through f zero x y = refl
-through f (suc n) x y = refl
+-- what the flat lookups promise
+abbrev pub FlatNearest : List ℕ → List ℕ → List Float → NormalizedColor → Found → Type 0
+FlatNearest reduced normalized oklab color x = x ≡ nearestAnswer reduced normalized oklab color
+
+abbrev pub FlatTwo : List ℕ → List ℕ → List Float → NormalizedColor → ℕ → FoundTwo → Type 0
+FlatTwo reduced normalized oklab color width x = x ≡ nearestTwoAnswer reduced normalized oklab color width
+
+abbrev pub FlatBracket : List ℕ → List ℕ → List Float → NormalizedColor → ℕ → FoundBracket → Type 0
+FlatBracket reduced normalized oklab color width x = x ≡ bracketAnswer reduced normalized oklab color width
 
 module _ (list : List CandidateColor) (color : NormalizedColor) where
   abbrev apart : Candidates
@@ -34,19 +46,50 @@ module _ (list : List CandidateColor) (color : NormalizedColor) where
   abbrev n : ℕ
   n = listNumber (reducedBytes list) (normalizedBytes list) (oklabFloats list)
 
-  pub nearest-agrees : foundIn list (nearestAnswer (reducedBytes list) (normalizedBytes list) (oklabFloats list) color) ≡ nearestRecord list color
-  unfolding nearestAnswer nearestRecord
-  nearest-agrees =
-      through (foundIn list) n (found.At (nearestOf apart (toOklab color))) (found.Refused n)
-      ∙ (λ i. after (number-agrees list i) (one.Chosen (recordAt list (nearestOf (flat-is list i) (toOklab color)))) (one.Refused (number-agrees list i)))
+  -- ---- with the same number the same is answered
+  nearest-with : (n : ℕ) → foundIn list (after n (found.At (nearestOf apart (toOklab color))) (found.Refused n)) ≡ nearestRecordAnswer list color n
+  nearest-with zero = λ i. one.Chosen (recordAt list (nearestOf (flat-is list i) (toOklab color)))
+  nearest-with (suc n) = refl
 
   module _ (width : ℕ) where
-    pub two-agrees : foundTwoIn list (nearestTwoAnswer (reducedBytes list) (normalizedBytes list) (oklabFloats list) color width) ≡ nearestTwoRecords list color width
-    unfolding nearestTwoAnswer nearestTwoRecords nearestTwoOf
-    two-agrees =
-        through (foundTwoIn list) n (two.At (nearestTwoOf apart width (toOklab color) color)) (two.Refused n)
-        ∙ (λ i. after (number-agrees list i) (recordsAt list (nearestTwoOf (flat-is list i) width (toOklab color) color .first) (nearestTwoOf (flat-is list i) width (toOklab color) color .second)) (both.Refused (number-agrees list i)))
+    two-with : (n : ℕ)
+        → foundTwoIn list (after n (two.At (nearestTwoOf apart width (toOklab color) color)) (two.Refused n)) ≡ nearestTwoRecordsAnswer list color width n
+    unfolding nearestTwoOf
+    two-with zero = λ i. (let t = nearestTwoOf (flat-is list i) width (toOklab color) color in recordsAt list (t .first) (t .second))
+    two-with (suc n) = refl
 
-    pub bracket-agrees : bracketAnswer (reducedBytes list) (normalizedBytes list) (oklabFloats list) color width ≡ recordsBracket list color width
-    unfolding bracketAnswer recordsBracket
-    bracket-agrees = λ i. after (number-agrees list i) (bracket.Of (bracketOf (flat-is list i) width (toOklab color) color)) (bracket.Refused (number-agrees list i))
+    bracket-with : (n : ℕ) → after n (bracket.Of (bracketOf apart width (toOklab color) color)) (bracket.Refused n) ≡ recordsBracketAnswer list color width n
+    bracket-with zero = λ i. bracket.Of (bracketOf (flat-is list i) width (toOklab color) color)
+    bracket-with (suc n) = refl
+
+  -- ---- and the number is the same: what is answered of the list
+  pub nearest-flat : {x : Found} → FlatNearest (reducedBytes list) (normalizedBytes list) (oklabFloats list) color x
+      → foundIn list x ≡ nearestRecordAnswer list color (recordsNumber list)
+  unfolding nearestAnswer
+  nearest-flat h = ap (foundIn list) h ∙ nearest-with n ∙ ap (nearestRecordAnswer list color) (number-agrees list)
+
+  pub nearest-agrees : {x : Found} {r : FoundRecord} → FlatNearest (reducedBytes list) (normalizedBytes list) (oklabFloats list) color x
+      → NearestRecord list color r → foundIn list x ≡ r
+  unfolding numberBy
+  nearest-agrees h p = nearest-flat h ∙ sym (answered _ _ _ p)
+
+  module _ (width : ℕ) where
+    pub two-flat : {x : FoundTwo} → FlatTwo (reducedBytes list) (normalizedBytes list) (oklabFloats list) color width x
+        → foundTwoIn list x ≡ nearestTwoRecordsAnswer list color width (recordsNumber list)
+    unfolding nearestTwoAnswer
+    two-flat h = ap (foundTwoIn list) h ∙ two-with width n ∙ ap (nearestTwoRecordsAnswer list color width) (number-agrees list)
+
+    pub two-agrees : {x : FoundTwo} {r : FoundRecords} → FlatTwo (reducedBytes list) (normalizedBytes list) (oklabFloats list) color width x
+        → NearestTwoRecords list color width r → foundTwoIn list x ≡ r
+    unfolding numberBy
+    two-agrees h p = two-flat h ∙ sym (answered _ _ _ p)
+
+    pub bracket-flat : {x : FoundBracket} → FlatBracket (reducedBytes list) (normalizedBytes list) (oklabFloats list) color width x
+        → x ≡ recordsBracketAnswer list color width (recordsNumber list)
+    unfolding bracketAnswer
+    bracket-flat h = h ∙ bracket-with width n ∙ ap (recordsBracketAnswer list color width) (number-agrees list)
+
+    pub bracket-agrees : {x r : FoundBracket} → FlatBracket (reducedBytes list) (normalizedBytes list) (oklabFloats list) color width x
+        → RecordsBracket list color width r → x ≡ r
+    unfolding numberBy
+    bracket-agrees h p = bracket-flat h ∙ sym (answered _ _ _ p)

@@ -1,20 +1,20 @@
--- The answers over records: the number of an answer is that of the list, the lowest that applies; what `chosen` answers after its pass; the short list
--- is accepted and gives the answers of the whole list; what `joined`, `two_of` and `bracket_of` make of it. Assumes nothing.
-use mathlib.Core.Path.{_≡_, refl, sym, ap, _∙_, subst}
+-- The answers over records: the number of a list is the lowest that applies; what is answered with it has the promise; what `chosen` answers after its
+-- pass; the short list is accepted and gives the answers of the whole list; what `joined`, `two_of` and `bracket_of` make of it. Assumes nothing.
+use mathlib.Core.Path.{_≡_, refl, sym, ap, _∙_, subst, transport}
 use mathlib.Core.List.{List, _∷_, map}
 use mathlib.Core.Bool.{Bool}
-use Prim.Native.Nat.{ℕ, suc, _+_, _*_, _/_, _≤_, _<_}
+use Prim.Native.Nat.{ℕ, zero, suc, _+_, _*_, _/_, _≤_, _<_}
 use native.Mathlib.Numerals.{add-one}
 use native.Mathlib.Omega.{arith}
 use borrow.Author.Tests.{lt-ltb, le-ltb}
 use lib.Dec.{T}
-use lib.ListN.{length, getD, take, length-take, List·getD-eq-default, List·getD-map}
+use lib.ListN.{length, getD, take, length-take, List·getD-eq-default, List·getD-map, length-map}
 use lib.Seq.{length-take-le}
 use lib.Ieee.{Float}
 use Rattle.lists.proofs.Bools.{is-true}
-use Rattle.replies.specs.Replies.{Lowest, after}
-use Rattle.replies.proofs.ReplyLaws.{after-accepted}
+use Rattle.replies.specs.Replies.{Lowest, firstReply}
 use Rattle.replies.proofs.LowestLaws.{lowest-is}
+use Rattle.replies.proofs.AnswerLaws.{answers}
 use Rattle.color.specs.declared.CandidateColor.{CandidateColor}
 use Rattle.color.specs.declared.NormalizedColor.{NormalizedColor}
 use Rattle.color.specs.declared.Oklab.{Oklab}
@@ -35,33 +35,35 @@ use Rattle.lookup.specs.declared.FoundBracket.the-variants as bracket
 use Rattle.lookup.specs.Lists.{countFits, listNumber}
 use Rattle.lookup.specs.Second.{nearestTwoOf}
 use Rattle.lookup.specs.Bracket.{bracketOf}
-use Rattle.lookup.specs.Answers.{nearestTwoAnswer, bracketAnswer, numberOfTwo, numberOfBracket}
+use Rattle.lookup.specs.Answers.{numberOfTwo, numberOfBracket}
 use Rattle.lookup.proofs.AnswerLaws as Flat
 use Rattle.lookup.proofs.ListLaws as Flat′
 use Rattle.lookup.proofs.TwoLaws.{first-entry, second-entry}
-use Rattle.records.specs.declared.passes.Kept.{Kept}
+use Rattle.records.specs.declared.passes.Entry.{Entry}
 use Rattle.records.specs.declared.passes.Pass.{Pass}
 use Rattle.records.specs.declared.shorts.Short.{Short}
+use Rattle.records.specs.declared.FoundRecord.{FoundRecord}
 use Rattle.records.specs.declared.FoundRecord.the-variants as one
 use Rattle.records.specs.declared.FoundRecords.{FoundRecords}
 use Rattle.records.specs.declared.FoundRecords.the-variants as both
 use Rattle.records.specs.Lists.{noRecord, recordAt, candidatesOf, rangedTo, recordReplies, numberBy, recordsNumber}
-use Rattle.records.specs.Answers.{recordsAt, foundTwoIn, nearestRecord, nearestTwoRecords, recordsBracket, numberOfRecord, numberOfRecords}
-use Rattle.records.specs.Keeping.{farOf, entryOf, Passed, shortOf, shortRecords, inLine, LaidIn, Roomy, recordIn, Shortened}
+use Rattle.records.specs.Answers.{numberOfRecord, numberOfRecords, nearestRecordAnswer, recordsAt, nearestTwoRecordsAnswer, recordsBracketAnswer}
+use Rattle.records.specs.Answers.{NearestRecord, NearestTwoRecords, RecordsBracket, foundTwoIn}
+use Rattle.records.specs.Keeping.{farOf, entryOf, Passed, shortPositions, shortRecords, inLine, LaidIn, Roomy, recordIn, Shortened}
 use Rattle.records.proofs.ListLaws.{Accepted, accepted, all-ranged}
-use Rattle.records.proofs.MapLaws.{map-take, map-map, length-map}
+use Rattle.shortlist.proofs.MapLaws.{map-take, map-map}
 use Rattle.records.proofs.KeepingLaws.{noEntry, nearest-kept}
 use Rattle.records.proofs.FlatLaws.{laid-record}
-use Rattle.records.proofs.AgreeLaws.{two-agrees, bracket-agrees}
+use Rattle.records.proofs.AgreeLaws.{FlatTwo, FlatBracket, two-flat, bracket-flat}
 use Rattle.records.proofs.ShortLaws.{renamed, standing, shortened, standing-inside, first-short, second-short, bracket-short}
 
 -- ---- the number of a list is the lowest that applies
-pub number-lowest : (list : List CandidateColor) → Lowest (recordReplies (length list) (rangedTo list (length list))) (recordsNumber list)
-unfolding numberBy
-number-lowest list = lowest-is (recordReplies (length list) (rangedTo list (length list))) tt
+pub number-lowest : (list : List CandidateColor) → Lowest (recordReplies list) (firstReply (recordReplies list))
+number-lowest list = lowest-is (recordReplies list) tt
 
 -- and it is what `refusal` says after a pass
-pub number-is : (list : List CandidateColor) (len : ℕ) (ranged : Bool) (r : ℕ) → len ≡ length list → ranged ≡ rangedTo list (length list) → r ≡ numberBy len ranged → r ≡ recordsNumber list
+pub number-is : (list : List CandidateColor) (len : ℕ) (ranged : Bool) (r : ℕ) → len ≡ length list → ranged ≡ rangedTo list (length list)
+    → r ≡ numberBy len ranged → r ≡ recordsNumber list
 number-is list len ranged r e f g = g ∙ (λ i. numberBy (e i) (f i))
 
 -- a list of so many records in range
@@ -69,43 +71,76 @@ number-none : (list : List CandidateColor) → 0 < length list → length list �
 unfolding numberBy countFits
 number-none list h l r = rw (lt-ltb 0 (length list) h, le-ltb 65536 (length list) l, is-true (rangedTo list (length list)) r)
 
-after-accepted′ : {A : Type 0} (n : ℕ) (x y : A) → n ≡ 0 → after n x y ≡ x
-after-accepted′ n x y e = sym (after-accepted n x y e)
-
--- ---- an answer's number is that of the list
+-- ---- what is answered with the number of a list has the promise: it has that number itself
 module _ (list : List CandidateColor) (color : NormalizedColor) where
-  pub nearest-number : numberOfRecord (nearestRecord list color) ≡ recordsNumber list
-  unfolding nearestRecord
-  nearest-number = Flat.numbered one.Refused numberOfRecord (recordsNumber list) _ refl (λ m. refl)
+  pub nearest-promised : {r : FoundRecord} → r ≡ nearestRecordAnswer list color (recordsNumber list) → NearestRecord list color r
+  unfolding numberBy
+  nearest-promised = answers numberOfRecord (recordReplies list) (nearestRecordAnswer list color) own
+    where
+      own : (n : ℕ) → numberOfRecord (nearestRecordAnswer list color n) ≡ n
+      own zero = refl
+      own (suc n) = refl
 
   module _ (width : ℕ) where
-    pub nearest-two-number : numberOfRecords (nearestTwoRecords list color width) ≡ recordsNumber list
-    unfolding nearestTwoRecords
-    nearest-two-number = let t = nearestTwoOf (candidatesOf list) width (toOklab color) color in Flat.numbered both.Refused numberOfRecords (recordsNumber list) _ (no (t .first) (t .second)) (λ m. refl)
+    pub two-promised : {r : FoundRecords} → r ≡ nearestTwoRecordsAnswer list color width (recordsNumber list) → NearestTwoRecords list color width r
+    unfolding numberBy
+    two-promised = answers numberOfRecords (recordReplies list) (nearestTwoRecordsAnswer list color width) own
       where
         no : (a : ℕ) (s : Second) → numberOfRecords (recordsAt list a s) ≡ 0
         no a Nothing = refl
         no a (At b) = refl
 
-    pub bracket-number : numberOfBracket (recordsBracket list color width) ≡ recordsNumber list
-    unfolding recordsBracket
-    bracket-number = Flat.numbered bracket.Refused numberOfBracket (recordsNumber list) _ refl (λ m. refl)
+        own : (n : ℕ) → numberOfRecords (nearestTwoRecordsAnswer list color width n) ≡ n
+        own zero = let t = nearestTwoOf (candidatesOf list) width (toOklab color) color in no (t .first) (t .second)
+        own (suc n) = refl
+
+    pub bracket-promised : {r : FoundBracket} → r ≡ recordsBracketAnswer list color width (recordsNumber list) → RecordsBracket list color width r
+    unfolding numberBy
+    bracket-promised = answers numberOfBracket (recordReplies list) (recordsBracketAnswer list color width) own
+      where
+        own : (n : ℕ) → numberOfBracket (recordsBracketAnswer list color width n) ≡ n
+        own zero = refl
+        own (suc n) = refl
+
+-- ---- a refusal: the number of the list, which is not 0
+module _ (list : List CandidateColor) (color : NormalizedColor) {r : ℕ} (e : r ≡ recordsNumber list) (h : r ≡ 0 → ⊥) where
+  pub nearest-refused : NearestRecord list color (one.Refused r)
+  nearest-refused = nearest-promised list color (own r h ∙ ap (nearestRecordAnswer list color) e)
+    where
+      own : (r : ℕ) → (r ≡ 0 → ⊥) → one.Refused r ≡ nearestRecordAnswer list color r
+      own zero h = absurd (h refl)
+      own (suc r) h = refl
+
+  pub two-refused : (width : ℕ) → NearestTwoRecords list color width (both.Refused r)
+  two-refused width = two-promised list color width (own r h ∙ ap (nearestTwoRecordsAnswer list color width) e)
+    where
+      own : (r : ℕ) → (r ≡ 0 → ⊥) → both.Refused r ≡ nearestTwoRecordsAnswer list color width r
+      own zero h = absurd (h refl)
+      own (suc r) h = refl
+
+  pub bracket-refused : (width : ℕ) → RecordsBracket list color width (bracket.Refused r)
+  bracket-refused width = bracket-promised list color width (own r h ∙ ap (recordsBracketAnswer list color width) e)
+    where
+      own : (r : ℕ) → (r ≡ 0 → ⊥) → bracket.Refused r ≡ recordsBracketAnswer list color width r
+      own zero h = absurd (h refl)
+      own (suc r) h = refl
 
 -- ---- what `chosen` answers
-module _ (list : List CandidateColor) (color : NormalizedColor) (len : ℕ) (near : Pass) (e : len ≡ length list) (P : Passed list (toOklab color) (length list) 1 (length list) near)
+module _ (list : List CandidateColor) (color : NormalizedColor) (len : ℕ) (near : Pass) (e : len ≡ length list)
+    (P : Passed list (toOklab color) (length list) 1 (length list) near)
     (r : ℕ) (g : r ≡ numberBy len (near .ranged)) where
   number : r ≡ recordsNumber list
   number = number-is list len (near .ranged) r e (P .ranged) g
 
-  pub nearest-refused : (r ≡ 0 → ⊥) → one.Refused r ≡ nearestRecord list color
-  unfolding nearestRecord
-  nearest-refused h = Flat.refused one.Refused _ _ _ number h
+  pub nearest-unmet : (r ≡ 0 → ⊥) → NearestRecord list color (one.Refused r)
+  nearest-unmet h = nearest-refused list color number h
 
-  pub nearest-granted : T (allInRange (toOklab color)) → r ≡ 0 → one.Chosen (getD (near .kept) 0 noEntry .color) ≡ nearestRecord list color
-  unfolding nearestRecord
+  pub nearest-granted : T (allInRange (toOklab color)) → r ≡ 0 → NearestRecord list color (one.Chosen (getD (near .kept) 0 noEntry .color))
   nearest-granted O z =
       let A = accepted list (sym number ∙ z) in
-      ap (λ (x : Kept). one.Chosen (x .color)) (nearest-kept list (toOklab color) near P O (A .positive) (A .ranged)) ∙ after-accepted (recordsNumber list) _ (one.Refused (recordsNumber list)) (sym number ∙ z)
+      nearest-promised list color (
+      ap (λ (x : Entry). one.Chosen (x .color)) (nearest-kept list (toOklab color) near P O (A .positive) (A .ranged))
+      ∙ ap (nearestRecordAnswer list color) (sym z ∙ number))
 
 -- ---- the short list
 module _ (list : List CandidateColor) (color : NormalizedColor) (width : ℕ) (A : Accepted list) (O : T (allInRange (toOklab color))) where
@@ -116,7 +151,7 @@ module _ (list : List CandidateColor) (color : NormalizedColor) (width : ℕ) (A
   o = toOklab color
 
   abbrev ps : List ℕ
-  ps = shortOf cs width o
+  ps = shortPositions cs width o
 
   abbrev short : List CandidateColor
   short = shortRecords list width color
@@ -126,22 +161,29 @@ module _ (list : List CandidateColor) (color : NormalizedColor) (width : ℕ) (A
 
   -- the record at a place is the one that stands there
   short-at : (k : ℕ) → recordAt short k ≡ recordAt list (g k)
-  short-at k = ap (λ (z : CandidateColor). getD (map (recordAt list) ps) k z) (sym (List·getD-eq-default list noRecord {n = length list} (omega arith))) ∙ List·getD-map (recordAt list) ps k (length list)
+  short-at k = ap (λ (z : CandidateColor). getD (map (recordAt list) ps) k z) (sym (List·getD-eq-default list noRecord {n = length list} (omega arith)))
+      ∙ List·getD-map (recordAt list) ps k (length list)
 
   short-is : candidatesOf short ≡ shortened cs width o
-  short-is = λ i. record { count = length-map (recordAt list) ps i; reduced = λ k. short-at k i .reduced; normalized = λ k. short-at k i .normalized; oklab = λ k. short-at k i .oklab }
+  short-is = λ i. record {
+    count = length-map ps (recordAt list) i;
+    reduced = λ k. short-at k i .reduced;
+    normalized = λ k. short-at k i .normalized;
+    oklab =
+        λ k. short-at k i .oklab;
+  }
 
   -- it is accepted
   short-long : (0 < length short) × (length short ≤ 17)
   short-long =
-      let l = length-map (recordAt list) ps in
+      let l = length-map ps (recordAt list) in
       let t = length-take (clampWidth width) (ranked (distances (cs .oklab (nearestOf cs o)) (cs .oklab)) (nearestOf cs o) (cs .count)) in
       (omega (arith, l), omega (arith, l, t))
 
   short-ranged : T (rangedTo short (length short))
   short-ranged = all-ranged short (length short) (λ k l.
       subst (λ (x : CandidateColor). T (allInRange (x .oklab))) (sym (short-at k))
-      (A .range (g k) (standing-inside cs width o color (A .positive) (A .range) O k (subst (λ (m : ℕ). k < m) (length-map (recordAt list) ps) l))))
+      (A .range (g k) (standing-inside cs width o color (A .positive) (A .range) O k (subst (λ (m : ℕ). k < m) (length-map ps (recordAt list)) l))))
 
   pub short-accepted : recordsNumber short ≡ 0
   short-accepted = number-none short (short-long .0) (omega (arith, short-long .1)) short-ranged
@@ -151,27 +193,26 @@ module _ (list : List CandidateColor) (color : NormalizedColor) (width : ℕ) (A
   records-same a Nothing = λ i. both.One (sym (short-at a) i)
   records-same a (At b) = λ i. both.Two (sym (short-at a) i) (sym (short-at b) i)
 
-  pub two-short : recordsNumber list ≡ 0 → nearestTwoRecords short color width ≡ nearestTwoRecords list color width
-  unfolding nearestTwoRecords nearestTwoOf
-  two-short z =
-      after-accepted′ (recordsNumber short) _ (both.Refused (recordsNumber short)) short-accepted
+  pub two-short : nearestTwoRecordsAnswer short color width (recordsNumber short) ≡ nearestTwoRecordsAnswer list color width 0
+  unfolding nearestTwoOf
+  two-short =
+      ap (nearestTwoRecordsAnswer short color width) short-accepted
       ∙ (λ i. recordsAt short (nearestTwoOf (short-is i) width o color .first) (nearestTwoOf (short-is i) width o color .second))
       ∙ sym (records-same (nearestTwoOf (shortened cs width o) width o color .first) (nearestTwoOf (shortened cs width o) width o color .second))
-      ∙ (λ i. recordsAt list (sym (first-short cs width o color (A .positive) (A .range) O) i) (sym (second-short cs width o color (A .positive) (A .range) O) i))
-      ∙ after-accepted (recordsNumber list) _ (both.Refused (recordsNumber list)) z
+      ∙ (λ i. recordsAt list (sym (first-short cs width o color (A .positive) (A .range) O) i)
+      (sym (second-short cs width o color (A .positive) (A .range) O) i))
 
-  pub bracket-same : recordsNumber list ≡ 0 → recordsBracket short color width ≡ recordsBracket list color width
-  unfolding recordsBracket
-  bracket-same z =
-      after-accepted′ (recordsNumber short) _ (bracket.Refused (recordsNumber short)) short-accepted
+  pub bracket-same : recordsBracketAnswer short color width (recordsNumber short) ≡ recordsBracketAnswer list color width 0
+  bracket-same =
+      ap (recordsBracketAnswer short color width) short-accepted
       ∙ ap (λ (x : Candidates). bracket.Of (bracketOf x width o color)) short-is
       ∙ ap bracket.Of (sym (bracket-short cs width o color (A .positive) (A .range) O))
-      ∙ after-accepted (recordsNumber list) _ (bracket.Refused (recordsNumber list)) z
 
 -- ---- the short list after the two passes
 pub joined-is : (list : List CandidateColor) (color : NormalizedColor) (width len : ℕ) (near others : Pass) → len ≡ length list → T (allInRange (toOklab color))
     → Passed list (toOklab color) (length list) 1 (length list) near
-    → (recordsNumber list ≡ 0 → Passed list (recordAt list (nearestOf (candidatesOf list) (toOklab color)) .oklab) (nearestOf (candidatesOf list) (toOklab color)) width (length list) others)
+    → (recordsNumber list ≡ 0 → Passed list (recordAt list (nearestOf (candidatesOf list) (toOklab color)) .oklab)
+    (nearestOf (candidatesOf list) (toOklab color)) width (length list) others)
     → (r : ℕ) → r ≡ numberBy len (near .ranged) → (total : ℕ) → (others .count ≤ 16 → total ≡ others .count + 1)
     → {rs ns : List ℕ} {os : List Float} → LaidIn (take total (inLine (getD (near .kept) 0 noEntry .color) (others .kept))) total rs ns os
     → Shortened list width color (record { number = r; count = total; reduced = rs; normalized = ns; oklab = os })
@@ -195,18 +236,21 @@ joined-is list color width len near others e O P Q r g total T₁ {rs} {ns} {os}
         let js : List ℕ = shortlistOf (farOf list (recordAt list a .oklab)) a (length list) width in
         let few : others .count ≤ 16 = omega (arith, K .count, length-take (clampWidth width) (ranked (farOf list (recordAt list a .oklab)) a (length list))) in
         let one : total ≡ suc (others .count) = T₁ few ∙ add-one (others .count) in
-        let first : getD (near .kept) 0 noEntry .color ≡ recordAt list a = ap (λ (x : Kept). x .color) (nearest-kept list (toOklab color) near P O (A .positive) (A .ranged)) in
-        let rest : take (others .count) (map (λ (x : Kept). x .color) (others .kept)) ≡ map (recordAt list) js =
-        sym (map-take (λ (x : Kept). x .color) (others .count) (others .kept)) ∙ ap (map (λ (x : Kept). x .color)) (K .front)
-        ∙ map-map (entryOf (recordAt list) (farOf list (recordAt list a .oklab))) (λ (x : Kept). x .color) js in
+        let first : getD (near .kept) 0 noEntry .color ≡ recordAt list a =
+        ap (λ (x : Entry). x .color) (nearest-kept list (toOklab color) near P O (A .positive) (A .ranged)) in
+        let rest : take (others .count) (map (λ (x : Entry). x .color) (others .kept)) ≡ map (recordAt list) js =
+        sym (map-take (λ (x : Entry). x .color) (others .count) (others .kept)) ∙ ap (map (λ (x : Entry). x .color)) (K .front)
+        ∙ map-map (entryOf (recordAt list) (farOf list (recordAt list a .oklab))) (λ (x : Entry). x .color) js in
         ap (λ (m : ℕ). take m (inLine (getD (near .kept) 0 noEntry .color) (others .kept))) one ∙ (λ i. first i ∷ rest i)
 
 -- ---- the records at two places of flat lists
 module _ (list : List CandidateColor) (t : Two) where
-  pub records-two : (b : ℕ) → t .second ≡ At b → (x y : CandidateColor) {x′ y′ : CandidateColor} → x ≡ x′ → y ≡ y′ → x′ ≡ recordAt list (t .first) → y′ ≡ recordAt list b → both.Two x y ≡ recordsAt list (t .first) (t .second)
+  pub records-two : (b : ℕ) → t .second ≡ At b → (x y : CandidateColor) {x′ y′ : CandidateColor} → x ≡ x′ → y ≡ y′ → x′ ≡ recordAt list (t .first)
+      → y′ ≡ recordAt list b → both.Two x y ≡ recordsAt list (t .first) (t .second)
   records-two b e x y p q f g = (λ i. both.Two ((p ∙ f) i) ((q ∙ g) i)) ∙ ap (recordsAt list (t .first)) (sym e)
 
-  pub records-one : t .second ≡ Nothing → (x : CandidateColor) {x′ : CandidateColor} → x ≡ x′ → x′ ≡ recordAt list (t .first) → both.One x ≡ recordsAt list (t .first) (t .second)
+  pub records-one : t .second ≡ Nothing → (x : CandidateColor) {x′ : CandidateColor} → x ≡ x′ → x′ ≡ recordAt list (t .first)
+      → both.One x ≡ recordsAt list (t .first) (t .second)
   records-one e x p f = ap both.One (p ∙ f) ∙ ap (recordsAt list (t .first)) (sym e)
 
 -- ---- the fronts of a short list's arrays that its records take
@@ -214,7 +258,8 @@ module _ {s : Short} (R : Roomy s) where
   pub fits : (4 * s .count ≤ length (s .reduced)) × (4 * s .count ≤ length (s .normalized)) × (3 * s .count ≤ length (s .oklab))
   fits = (omega arith, omega arith, omega arith)
 
-  pub fronts : (4 * s .count ≡ length (take (4 * s .count) (s .reduced))) × (4 * s .count ≡ length (take (4 * s .count) (s .normalized))) × (3 * s .count ≡ length (take (3 * s .count) (s .oklab)))
+  pub fronts : (4 * s .count ≡ length (take (4 * s .count) (s .reduced))) × (4 * s .count ≡ length (take (4 * s .count) (s .normalized)))
+      × (3 * s .count ≡ length (take (3 * s .count) (s .oklab)))
   fronts = (sym (length-take-le _ _ (fits .0)), sym (length-take-le _ _ (fits .1)), sym (length-take-le _ _ (fits .2)))
 
 -- ---- the flat answer over the short list
@@ -223,7 +268,8 @@ twoOr u (two.At t) = t
 twoOr u (two.Refused n) = u
 
 -- its positions are entries
-pub two-inside : (rs ns : List ℕ) (os : List Float) (color : NormalizedColor) (width : ℕ) (x : FoundTwo) (t : Two) → x ≡ nearestTwoAnswer rs ns os color width → x ≡ two.At t
+pub two-inside : (rs ns : List ℕ) (os : List Float) (color : NormalizedColor) (width : ℕ) (x : FoundTwo) (t : Two) → FlatTwo rs ns os color width x
+    → x ≡ two.At t
     → (t .first < length rs / 4) × ((b : ℕ) → t .second ≡ At b → b < length rs / 4)
 two-inside rs ns os color width x t p q =
     let e = sym p ∙ q in
@@ -236,7 +282,7 @@ two-inside rs ns os color width x t p q =
 
 -- of which there are at most 17
 pub two-few : (color : NormalizedColor) (width : ℕ) {s : Short} → Roomy s → {x : FoundTwo} {t : Two}
-    → x ≡ nearestTwoAnswer (take (4 * s .count) (s .reduced)) (take (4 * s .count) (s .normalized)) (take (3 * s .count) (s .oklab)) color width → x ≡ two.At t
+    → FlatTwo (take (4 * s .count) (s .reduced)) (take (4 * s .count) (s .normalized)) (take (3 * s .count) (s .oklab)) color width x → x ≡ two.At t
     → (t .first < 17) × ((b : ℕ) → t .second ≡ At b → b < 17)
 two-few color width {s} R {x} {t} p q =
     let i = two-inside (take (4 * s .count) (s .reduced)) (take (4 * s .count) (s .normalized)) (take (3 * s .count) (s .oklab)) color width x t p q in
@@ -250,30 +296,40 @@ module _ {list : List CandidateColor} {color : NormalizedColor} {width : ℕ} {s
   L : LaidIn (shortRecords list width color) (s .count) (s .reduced) (s .normalized) (s .oklab)
   L = S .short z
 
-  two-from : {x : FoundTwo} → x ≡ nearestTwoAnswer (take (4 * s .count) (s .reduced)) (take (4 * s .count) (s .normalized)) (take (3 * s .count) (s .oklab)) color width
-      → foundTwoIn (shortRecords list width color) x ≡ nearestTwoRecords list color width
-  two-from h =
-      ap (foundTwoIn (shortRecords list width color)) (h ∙ (λ i. nearestTwoAnswer (L .reduced i) (L .normalized i) (L .oklab i) color width))
-      ∙ two-agrees (shortRecords list width color) color width ∙ two-short list color width (accepted list z) (S .range) z
+  two-from : {x : FoundTwo} → FlatTwo (take (4 * s .count) (s .reduced)) (take (4 * s .count) (s .normalized)) (take (3 * s .count) (s .oklab)) color width x
+      → NearestTwoRecords list color width (foundTwoIn (shortRecords list width color) x)
+  two-from {x} h =
+      two-promised list color width (
+      two-flat (shortRecords list width color) color width
+      (transport (λ i. FlatTwo (L .reduced i) (L .normalized i) (L .oklab i) color width x) h)
+      ∙ two-short list color width (accepted list z) (S .range) ∙ ap (nearestTwoRecordsAnswer list color width) (sym z))
 
-  pub bracket-from : {x : FoundBracket} → x ≡ bracketAnswer (take (4 * s .count) (s .reduced)) (take (4 * s .count) (s .normalized)) (take (3 * s .count) (s .oklab)) color width → x ≡ recordsBracket list color width
-  bracket-from h =
-      h ∙ (λ i. bracketAnswer (L .reduced i) (L .normalized i) (L .oklab i) color width)
-      ∙ bracket-agrees (shortRecords list width color) color width ∙ bracket-same list color width (accepted list z) (S .range) z
+  pub bracket-from : {x : FoundBracket}
+      → FlatBracket (take (4 * s .count) (s .reduced)) (take (4 * s .count) (s .normalized)) (take (3 * s .count) (s .oklab)) color width x
+      → RecordsBracket list color width x
+  bracket-from {x} h =
+      bracket-promised list color width (
+      bracket-flat (shortRecords list width color) color width
+      (transport (λ i. FlatBracket (L .reduced i) (L .normalized i) (L .oklab i) color width x) h)
+      ∙ bracket-same list color width (accepted list z) (S .range) ∙ ap (recordsBracketAnswer list color width) (sym z))
 
   -- the records at the positions of the flat answer
-  record-from : (k : ℕ) → k < length (take (4 * s .count) (s .reduced)) / 4 → recordIn (s .reduced) (s .normalized) (s .oklab) k ≡ recordAt (shortRecords list width color) k
+  record-from : (k : ℕ) → k < length (take (4 * s .count) (s .reduced)) / 4 → recordIn (s .reduced) (s .normalized) (s .oklab) k ≡ recordAt
+      (shortRecords list width color) k
   record-from k h = laid-record (shortRecords list width color) L k (omega (arith, length-take (4 * s .count) (s .reduced)))
 
   pub two-found : {x : FoundTwo} {t : Two} {r : FoundRecords}
-      → x ≡ nearestTwoAnswer (take (4 * s .count) (s .reduced)) (take (4 * s .count) (s .normalized)) (take (3 * s .count) (s .oklab)) color width → x ≡ two.At t
+      → FlatTwo (take (4 * s .count) (s .reduced)) (take (4 * s .count) (s .normalized)) (take (3 * s .count) (s .oklab)) color width x → x ≡ two.At t
       → ((l : List CandidateColor) → recordIn (s .reduced) (s .normalized) (s .oklab) (t .first) ≡ recordAt l (t .first)
       → ((b : ℕ) → t .second ≡ At b → recordIn (s .reduced) (s .normalized) (s .oklab) b ≡ recordAt l b) → r ≡ recordsAt l (t .first) (t .second))
-      → r ≡ nearestTwoRecords list color width
+      → NearestTwoRecords list color width r
   two-found {x} {t} p q h =
       let i = two-inside (take (4 * s .count) (s .reduced)) (take (4 * s .count) (s .normalized)) (take (3 * s .count) (s .oklab)) color width x t p q in
-      h (shortRecords list width color) (record-from (t .first) (i .0)) (λ b e. record-from b (i .1 b e)) ∙ ap (foundTwoIn (shortRecords list width color)) (sym q) ∙ two-from p
+      let short = shortRecords list width color in
+      subst (λ (r : FoundRecords). NearestTwoRecords list color width r)
+      (ap (foundTwoIn short) q ∙ sym (h short (record-from (t .first) (i .0)) (λ b e. record-from b (i .1 b e)))) (two-from p)
 
-  pub two-not-found : {x : FoundTwo} {n : ℕ} → x ≡ nearestTwoAnswer (take (4 * s .count) (s .reduced)) (take (4 * s .count) (s .normalized)) (take (3 * s .count) (s .oklab)) color width → x ≡ two.Refused n
-      → both.Refused n ≡ nearestTwoRecords list color width
-  two-not-found p q = ap (foundTwoIn (shortRecords list width color)) (sym q) ∙ two-from p
+  pub two-not-found : {x : FoundTwo} {n : ℕ}
+      → FlatTwo (take (4 * s .count) (s .reduced)) (take (4 * s .count) (s .normalized)) (take (3 * s .count) (s .oklab)) color width x → x ≡ two.Refused n
+      → NearestTwoRecords list color width (both.Refused n)
+  two-not-found p q = subst (λ (r : FoundRecords). NearestTwoRecords list color width r) (ap (foundTwoIn (shortRecords list width color)) q) (two-from p)

@@ -8,7 +8,7 @@ use Prim.Native.Nat.{ℕ, zero, suc, _+_, _-_, _*_, _/_, _%_, _≤_, _<_}
 use native.Mathlib.Omega.{arith}
 use borrow.Author.Tests.{eq-eqb, ltb-true, ltb-false}
 use lib.Dec.{T, T-not, not-T, ltb}
-use lib.ListN.{length, getD, take, List·getD-eq-default}
+use lib.ListN.{length, getD, take, List·getD-eq-default, length-map}
 use lib.Seq.{sets, take-at, getD-take, length-take-le}
 use lib.Ieee.{Float, nan}
 use lib.Ieee.Fits.{and-l, and-r, and-i}
@@ -25,24 +25,27 @@ use Rattle.color.specs.Color.{rgba, rgbaAt, reducedAt, normalizedAt, bytesOf}
 use Rattle.color.specs.Oklab.{inRange, allInRange, oklabAt, floatsOf}
 use Rattle.shortlist.specs.Candidates.{flat}
 use Rattle.lookup.specs.Lists.{lengthsFit, firstOutside, listNumber}
-use Rattle.records.specs.declared.passes.Kept.{Kept}
-use Rattle.records.specs.Lists.{noRecord, recordAt, candidatesOf, rangedTo, numberBy, recordsNumber, reducedPiece, normalizedPiece, oklabPiece, reducedBytes, normalizedBytes, oklabFloats}
+use Rattle.records.specs.declared.passes.Entry.{Entry}
+use Rattle.records.specs.Lists.{noRecord, recordAt, candidatesOf, rangedTo, numberBy, recordsNumber}
+use Rattle.records.specs.Lists.{reducedPiece, normalizedPiece, oklabPiece, reducedBytes, normalizedBytes, oklabFloats}
 use Rattle.records.specs.Keeping.{inLine, LaidIn, recordIn}
 use Rattle.records.proofs.ListLaws.{ranged-all, all-ranged}
-use Rattle.records.proofs.MapLaws.{getD-map, length-map}
+use Rattle.shortlist.proofs.MapLaws.{getD-map}
 use Rattle.records.proofs.KeepingLaws.{noEntry}
 
 -- ---- a line of records laid down
-pub nth-later : (first : CandidateColor) (kept : List Kept) (i : ℕ) → length kept ≡ 16 → (i ≡ 0 → ⊥) → i < 17 → getD kept (i - 1) noEntry .color ≡ recordAt (inLine first kept) i
+pub nth-later : (first : CandidateColor) (kept : List Entry) (i : ℕ) → length kept ≡ 16 → (i ≡ 0 → ⊥) → i < 17
+    → getD kept (i - 1) noEntry .color ≡ recordAt (inLine first kept) i
 nth-later first kept zero e h l = absurd (h refl)
 nth-later first kept (suc j) e h l =
-    ap (λ (m : ℕ). getD kept m noEntry .color) (down j) ∙ sym (getD-map (λ (x : Kept). x .color) kept j noRecord noEntry (omega arith))
+    ap (λ (m : ℕ). getD kept m noEntry .color) (down j) ∙ sym (getD-map (λ (x : Entry). x .color) kept j noRecord noEntry (omega arith))
   where
     down : (j : ℕ) → suc j - 1 ≡ j
     down j = omega arith
 
 -- pieces in place are the gathered pieces of any list whose pieces they are
-laid : {A : Type 0} (k n : ℕ) (piece other : ℕ → List A) (d s : List A) → ((j : ℕ) → length (piece j) ≡ k) → Filling k piece d s n → ((j : ℕ) → j < n → piece j ≡ other j) → take (k * n) s ≡ gather n other
+laid : {A : Type 0} (k n : ℕ) (piece other : ℕ → List A) (d s : List A) → ((j : ℕ) → length (piece j) ≡ k) → Filling k piece d s n
+    → ((j : ℕ) → j < n → piece j ≡ other j) → take (k * n) s ≡ gather n other
 laid k n piece other d s sized f same =
     ap (take (k * n)) (f .so-far) ∙ take-at (gather n piece) _ (k * n) (gather-length k piece sized n) ∙ gather-same n same
 
@@ -53,12 +56,16 @@ pub record Laying (line : List CandidateColor) (rs₀ ns₀ : List ℕ) (os₀ :
   pub oklab : Filling 3 (oklabPiece line) os₀ os i
 
 pub lay-begin : (line : List CandidateColor) (rs ns : List ℕ) (os : List Float) → Laying line rs ns os rs ns os 0
-lay-begin line rs ns os = record { reduced = fill-begin 4 (reducedPiece line) rs; normalized = fill-begin 4 (normalizedPiece line) ns; oklab = fill-begin 3 (oklabPiece line) os }
+lay-begin line rs ns os =
+    record { reduced = fill-begin 4 (reducedPiece line) rs; normalized = fill-begin 4 (normalizedPiece line) ns; oklab = fill-begin 3 (oklabPiece line) os }
 
-module _ {line : List CandidateColor} {rs₀ ns₀ : List ℕ} {os₀ : List Float} {rs ns : List ℕ} {os : List Float} {i : ℕ} (L : Laying line rs₀ ns₀ os₀ rs ns os i) where
+module _ {line : List CandidateColor} {rs₀ ns₀ : List ℕ} {os₀ : List Float} {rs ns : List ℕ} {os : List Float} {i : ℕ}
+    (L : Laying line rs₀ ns₀ os₀ rs ns os i) where
   -- record i put where it belongs
-  pub lay-more : {rs′ ns′ : List ℕ} {os′ : List Float} → (c : CandidateColor) → c ≡ recordAt line i → 4 * (i + 1) ≤ length rs₀ → 4 * (i + 1) ≤ length ns₀ → 3 * (i + 1) ≤ length os₀
-      → rs′ ≡ sets rs (4 * i) (bytesOf (c .reduced .0)) → ns′ ≡ sets ns (4 * i) (bytesOf (c .normalized .0)) → os′ ≡ sets os (3 * i) (floatsOf (c .oklab)) → Laying line rs₀ ns₀ os₀ rs′ ns′ os′ (i + 1)
+  pub lay-more : {rs′ ns′ : List ℕ} {os′ : List Float} → (c : CandidateColor) → c ≡ recordAt line i → 4 * (i + 1) ≤ length rs₀ → 4 * (i + 1) ≤ length ns₀
+      → 3 * (i + 1) ≤ length os₀
+      → rs′ ≡ sets rs (4 * i) (bytesOf (c .reduced .0)) → ns′ ≡ sets ns (4 * i) (bytesOf (c .normalized .0)) → os′ ≡ sets os (3 * i) (floatsOf (c .oklab))
+      → Laying line rs₀ ns₀ os₀ rs′ ns′ os′ (i + 1)
   lay-more c e R N O r n o = record {
     reduced = fill-store (L .reduced) (λ j. refl) R (r ∙ ap (λ (x : CandidateColor). sets rs (4 * i) (bytesOf (x .reduced .0))) e);
     normalized = fill-store (L .normalized) (λ j. refl) N (n ∙ ap (λ (x : CandidateColor). sets ns (4 * i) (bytesOf (x .normalized .0))) e);
@@ -76,14 +83,17 @@ module _ {line : List CandidateColor} {rs₀ ns₀ : List ℕ} {os₀ : List Flo
     pub laid-in : LaidIn (take i line) i rs ns os
     laid-in = record {
       count = size;
-      reduced = laid 4 i (reducedPiece line) (reducedPiece (take i line)) rs₀ rs (λ j. refl) (L .reduced) (λ j l. ap (λ (c : CandidateColor). bytesOf (c .reduced .0)) (same j l)) ∙ ap (λ (m : ℕ). gather m (reducedPiece (take i line))) size;
-      normalized = laid 4 i (normalizedPiece line) (normalizedPiece (take i line)) ns₀ ns (λ j. refl) (L .normalized) (λ j l. ap (λ (c : CandidateColor). bytesOf (c .normalized .0)) (same j l)) ∙ ap (λ (m : ℕ). gather m (normalizedPiece (take i line))) size;
-      oklab = laid 3 i (oklabPiece line) (oklabPiece (take i line)) os₀ os (λ j. refl) (L .oklab) (λ j l. ap (λ (c : CandidateColor). floatsOf (c .oklab)) (same j l)) ∙ ap (λ (m : ℕ). gather m (oklabPiece (take i line))) size;
+      reduced = laid 4 i (reducedPiece line) (reducedPiece (take i line)) rs₀ rs (λ j. refl) (L .reduced)
+          (λ j l. ap (λ (c : CandidateColor). bytesOf (c .reduced .0)) (same j l)) ∙ ap (λ (m : ℕ). gather m (reducedPiece (take i line))) size;
+      normalized = laid 4 i (normalizedPiece line) (normalizedPiece (take i line)) ns₀ ns (λ j. refl) (L .normalized)
+          (λ j l. ap (λ (c : CandidateColor). bytesOf (c .normalized .0)) (same j l)) ∙ ap (λ (m : ℕ). gather m (normalizedPiece (take i line))) size;
+      oklab = laid 3 i (oklabPiece line) (oklabPiece (take i line)) os₀ os (λ j. refl) (L .oklab)
+          (λ j l. ap (λ (c : CandidateColor). floatsOf (c .oklab)) (same j l)) ∙ ap (λ (m : ℕ). gather m (oklabPiece (take i line))) size;
     }
 
 -- a line of 17
-pub line-long : (first : CandidateColor) (kept : List Kept) → length kept ≡ 16 → length (inLine first kept) ≡ 17
-line-long first kept e = ap suc (length-map (λ (x : Kept). x .color) kept ∙ e)
+pub line-long : (first : CandidateColor) (kept : List Entry) → length kept ≡ 16 → length (inLine first kept) ≡ 17
+line-long first kept e = ap suc (length-map kept (λ (x : Entry). x .color) ∙ e)
 
 -- ---- flat lists give every record back, and nothing beyond the last
 inside-or-beyond : (k n : ℕ) → (k < n) ⊎ (n ≤ k)
@@ -101,7 +111,8 @@ module _ (n : ℕ) (color : ℕ → Rgba8888) where
   pub rgba-inside : (k : ℕ) → k < n → rgbaAt (gather n (λ i. bytesOf (color i))) k ≡ color k
   unfolding rgbaAt
   rgba-inside k h =
-      let r : getD (gather n (λ i. bytesOf (color i))) (4 * k) 0 ≡ color k .r = ap (λ (m : ℕ). getD (gather n (λ i. bytesOf (color i))) m 0) (plus (4 * k)) ∙ bytes-at k 0 h (omega arith) in
+      let r : getD (gather n (λ i. bytesOf (color i))) (4 * k) 0 ≡ color k .r = ap (λ (m : ℕ). getD (gather n (λ i. bytesOf (color i))) m 0) (plus (4 * k))
+      ∙ bytes-at k 0 h (omega arith) in
       let g = bytes-at k 1 h (omega arith) in
       let b = bytes-at k 2 h (omega arith) in
       let a = bytes-at k 3 h (omega arith) in
@@ -114,7 +125,8 @@ module _ (n : ℕ) (color : ℕ → Rgba8888) where
   unfolding rgbaAt
   rgba-beyond k h =
       let l : length (gather n (λ i. bytesOf (color i))) ≡ 4 * n = gather-length 4 (λ i. bytesOf (color i)) (λ i. refl) n in
-      let none : (m : ℕ) → 4 * k ≤ m → getD (gather n (λ i. bytesOf (color i))) m 0 ≡ 0 = λ m q. List·getD-eq-default (gather n (λ i. bytesOf (color i))) 0 {n = m} (omega (arith, l)) in
+      let none : (m : ℕ) → 4 * k ≤ m → getD (gather n (λ i. bytesOf (color i))) m 0 ≡ 0 = λ m q. List·getD-eq-default (gather n (λ i. bytesOf (color i))) 0 {n =
+      m} (omega (arith, l)) in
       let r = none (4 * k) (omega arith) in
       let g = none (4 * k + 1) (omega arith) in
       let b = none (4 * k + 2) (omega arith) in
@@ -149,7 +161,8 @@ module _ (list : List CandidateColor) where
   oklab-inside : (k : ℕ) → k < n → oklabAt (oklabFloats list) k ≡ recordAt list k .oklab
   unfolding oklabAt
   oklab-inside k h =
-      let l : getD (oklabFloats list) (3 * k) nan ≡ recordAt list k .oklab .l = ap (λ (m : ℕ). getD (oklabFloats list) m nan) (plus (3 * k)) ∙ floats-at k 0 h (omega arith) in
+      let l : getD (oklabFloats list) (3 * k) nan ≡ recordAt list k .oklab .l = ap (λ (m : ℕ). getD (oklabFloats list) m nan) (plus (3 * k))
+      ∙ floats-at k 0 h (omega arith) in
       let a = floats-at k 1 h (omega arith) in
       let b = floats-at k 2 h (omega arith) in
       λ i. record { l = l i; a = a i; b = b i }
@@ -160,7 +173,8 @@ module _ (list : List CandidateColor) where
   oklab-beyond : (k : ℕ) → n ≤ k → oklabAt (oklabFloats list) k ≡ noRecord .oklab
   unfolding oklabAt
   oklab-beyond k h =
-      let none : (m : ℕ) → 3 * k ≤ m → getD (oklabFloats list) m nan ≡ nan = λ m q. List·getD-eq-default (oklabFloats list) nan {n = m} (omega (arith, floats-long)) in
+      let none : (m : ℕ) → 3 * k ≤ m → getD (oklabFloats list) m nan ≡ nan = λ m q. List·getD-eq-default (oklabFloats list) nan {n = m}
+      (omega (arith, floats-long)) in
       let l = none (3 * k) (omega arith) in
       let a = none (3 * k + 1) (omega arith) in
       let b = none (3 * k + 2) (omega arith) in
@@ -190,7 +204,12 @@ module _ (list : List CandidateColor) where
   unfolding lengthsFit
   fit =
       let same : length (normalizedBytes list) ≡ length (reducedBytes list) = gather-length 4 (normalizedPiece list) (λ i. refl) n ∙ sym bytes-long in
-      rw (eq-eqb (length (reducedBytes list) % 4) 0 (omega (arith, bytes-long)), eq-eqb _ _ same, eq-eqb (length (oklabFloats list)) (3 * (length (reducedBytes list) / 4)) (omega (arith, floats-long, quarter)))
+      rw (
+        eq-eqb (length (reducedBytes list) % 4) 0 (omega (arith, bytes-long)),
+        eq-eqb _ _ same,
+        eq-eqb (length (oklabFloats list))
+            (3 * (length (reducedBytes list) / 4)) (omega (arith, floats-long, quarter)),
+      )
 
   -- a component of a record in range
   component : (p : Oklab) (j : ℕ) → T (allInRange p) → j < 3 → T (inRange (getD (floatsOf p) j nan))
@@ -209,8 +228,10 @@ module _ (list : List CandidateColor) where
   all-inside h =
       let f = first-is outside (length (oklabFloats list)) in
       let inside : (k j : ℕ) → k < n → j < 3 → T (inRange (getD (oklabPiece list k) j nan)) = λ k j l q.
-      subst (λ (x : Float). T (inRange x)) (floats-at k j l q) (twice (inRange (getD (oklabFloats list) (3 * k + j) nan)) (f .before (3 * k + j) (omega arith))) in
-      all-ranged list n (λ k l. and-i (inRange (recordAt list k .oklab .l)) _ (inside k 0 l (omega arith)) (and-i (inRange (recordAt list k .oklab .a)) (inRange (recordAt list k .oklab .b)) (inside k 1 l (omega arith)) (inside k 2 l (omega arith))))
+      subst (λ (x : Float). T (inRange x)) (floats-at k j l q)
+      (twice (inRange (getD (oklabFloats list) (3 * k + j) nan)) (f .before (3 * k + j) (omega arith))) in
+      all-ranged list n (λ k l. and-i (inRange (recordAt list k .oklab .l)) _ (inside k 0 l (omega arith))
+      (and-i (inRange (recordAt list k .oklab .a)) (inRange (recordAt list k .oklab .b)) (inside k 1 l (omega arith)) (inside k 2 l (omega arith))))
     where
       twice : (t : Bool) → T (not (not t)) → T t
       twice true h = tt
@@ -226,7 +247,8 @@ module _ (list : List CandidateColor) where
       let at : 3 * (m / 3) + m % 3 ≡ m = omega arith in
       T-not (inRange (getD (oklabFloats list) m nan)) (f .passes h)
       (subst (λ (i : ℕ). T (inRange (getD (oklabFloats list) i nan))) at
-      (subst (λ (x : Float). T (inRange x)) (sym (floats-at (m / 3) (m % 3) k j)) (component (recordAt list (m / 3) .oklab) (m % 3) (ranged-all list n r (m / 3) k) j)))
+      (subst (λ (x : Float). T (inRange x)) (sym (floats-at (m / 3) (m % 3) k j))
+      (component (recordAt list (m / 3) .oklab) (m % 3) (ranged-all list n r (m / 3) k) j)))
 
   range-agrees : ltb (firstOutside (oklabFloats list)) (length (oklabFloats list)) ≡ not (rangedTo list n)
   unfolding firstOutside

@@ -1,5 +1,4 @@
 -- The laws of `records`.
-mod MapLaws
 pub mod ListLaws
 pub mod KeepingLaws
 pub mod FlatLaws
@@ -7,6 +6,6 @@ pub mod AgreeLaws
 pub mod ShortLaws
 pub mod AnswerLaws
 mod Said
-mod Told
+pub mod Told
 mod ShortWalk
 pub mod Unique

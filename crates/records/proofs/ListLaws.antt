@@ -3,12 +3,12 @@
 use mathlib.Core.Path.{_≡_, sym, subst}
 use mathlib.Core.Logic.{inl, inr}
 use mathlib.Core.List.{List}
-use mathlib.Core.Bool.{Bool, true, false, not, _&&_}
+use mathlib.Core.Bool.{Bool, true, false, not}
 use Prim.Native.Nat.{ℕ, zero, suc, _≤_, _<_}
 use native.Mathlib.Nat.{le-of-suc-le-suc, not-suc-le-zero, eq-or-lt-of-le}
 use native.Mathlib.Omega.{arith}
 use borrow.Author.Tests.{not-false}
-use lib.Dec.{T, ltb}
+use lib.Dec.{T}
 use lib.ListN.{length}
 use lib.Ieee.Fits.{and-l, and-r, and-i}
 use Rattle.lists.proofs.Bools.{holds}
@@ -41,21 +41,21 @@ pub record Accepted (list : List CandidateColor) : Type 0 where
 pub accepted : (list : List CandidateColor) → recordsNumber list ≡ 0 → Accepted list
 unfolding numberBy
 accepted list e =
-    let a = reply-none (recordReplies (length list) (rangedTo list (length list))) tt e in
+    let a = reply-none (recordReplies list) tt e in
     let n = counted (length list) (not-false (countFits (length list)) (a .0)) in
     let r : T (rangedTo list (length list)) = holds (not-false (rangedTo list (length list)) (a .1 .0)) in
     record { positive = n .0; few = n .1; ranged = r; range = ranged-all list (length list) r }
 
 -- ---- what the tests of `refusal` say
 module _ (n : ℕ) (ranged : Bool) where
-  pub refused-count : not (ltb 0 n && not (ltb 65536 n)) ≡ true → 4 ≡ numberBy n ranged
-  unfolding numberBy countFits
-  refused-count e = rw e
+  pub refused-count : {t : Bool} → t ≡ countFits n → not t ≡ true → 4 ≡ numberBy n ranged
+  unfolding numberBy
+  refused-count c e = rw (sym c, e)
 
-  pub refused-range : not (ltb 0 n && not (ltb 65536 n)) ≡ false → not ranged ≡ true → 6 ≡ numberBy n ranged
-  unfolding numberBy countFits
-  refused-range e f = rw (e, f)
+  pub refused-range : {t : Bool} → t ≡ countFits n → not t ≡ false → not ranged ≡ true → 6 ≡ numberBy n ranged
+  unfolding numberBy
+  refused-range c e f = rw (sym c, e, f)
 
-  pub refused-none : not (ltb 0 n && not (ltb 65536 n)) ≡ false → not ranged ≡ false → 0 ≡ numberBy n ranged
-  unfolding numberBy countFits
-  refused-none e f = rw (e, f)
+  pub refused-none : {t : Bool} → t ≡ countFits n → not t ≡ false → not ranged ≡ false → 0 ≡ numberBy n ranged
+  unfolding numberBy
+  refused-none c e f = rw (sym c, e, f)

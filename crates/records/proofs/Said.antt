@@ -14,7 +14,7 @@ use Rattle.records.specs.declared.passes.Pass.{Pass}
 use Rattle.records.specs.declared.FoundRecord.{FoundRecord}
 use Rattle.records.specs.declared.shorts.Short.{Short}
 use Rattle.records.specs.Lists.{recordAt, candidatesOf, recordsNumber}
-use Rattle.records.specs.Answers.{nearestRecord}
+use Rattle.records.specs.Answers.{NearestRecord}
 use Rattle.records.specs.Keeping.{Passed, Roomy, Shortened}
 
 -- `step`, of record k
@@ -32,7 +32,7 @@ Begun color len r = T (allInRange (toOklab color)) × ((list : List CandidateCol
 -- `chosen`
 abbrev pub Chose : ℕ → Pass → FoundRecord → Type 0
 Chose len near r = (list : List CandidateColor) (color : NormalizedColor) → len ≡ length list → T (allInRange (toOklab color))
-    → Passed list (toOklab color) (length list) 1 (length list) near → r ≡ nearestRecord list color
+    → Passed list (toOklab color) (length list) 1 (length list) near → NearestRecord list color r
 
 -- `around`
 abbrev pub Rounded : Pass → ℕ → Pass → Type 0
@@ -43,5 +43,6 @@ Rounded near width r = (list : List CandidateColor) (o : Oklab) → T (allInRang
 abbrev pub Joined : ℕ → Pass → Pass → Short → Type 0
 Joined len near others r = Roomy r × ((list : List CandidateColor) (color : NormalizedColor) (width : ℕ) → len ≡ length list → T (allInRange (toOklab color))
     → Passed list (toOklab color) (length list) 1 (length list) near
-    → (recordsNumber list ≡ 0 → Passed list (recordAt list (nearestOf (candidatesOf list) (toOklab color)) .oklab) (nearestOf (candidatesOf list) (toOklab color)) width (length list) others)
+    → (recordsNumber list ≡ 0 → Passed list (recordAt list (nearestOf (candidatesOf list) (toOklab color)) .oklab)
+    (nearestOf (candidatesOf list) (toOklab color)) width (length list) others)
     → Shortened list width color r)

@@ -9,7 +9,7 @@ use native.Mathlib.Nat.{le-of-suc-le-suc, not-suc-le-zero}
 use native.Mathlib.Omega.{arith}
 use borrow.Author.Tests.{ne-eqb}
 use lib.Dec.{T}
-use lib.ListN.{length, getD, take, length-take, length-append}
+use lib.ListN.{length, getD, take, length-take, length-append, length-map}
 use lib.Seq.{take-suc, take-all, take-length}
 use lib.Ieee.{Float, lt, le}
 use Rattle.floats.proofs.Order.{Plain}
@@ -33,8 +33,8 @@ use Rattle.lookup.specs.declared.Second.{Second}
 use Rattle.lookup.specs.declared.Second.the-variants.{At, Nothing}
 use Rattle.lookup.specs.Second.{those, leastAmong, secondIn, secondOf, mixable, mixError, secondTo, nearestTwoOf}
 use Rattle.lookup.specs.Bracket.{bracketWith, bracketTwo, bracketAtOf, colored, bracketOf}
-use Rattle.records.specs.Keeping.{shortOf}
-use Rattle.records.proofs.MapLaws.{getD-map, length-map}
+use Rattle.records.specs.Keeping.{shortPositions}
+use Rattle.shortlist.proofs.MapLaws.{getD-map}
 
 -- ---- a choice by places is a choice by what stands there
 abbrev pub renamed : (ℕ → ℕ) → Second → Second
@@ -46,7 +46,8 @@ module _ (g : ℕ → ℕ) where
   those-map p [] = refl
   those-map p (k ∷ ks) = go (p (g k)) (those-map p ks)
     where
-      go : (t : Bool) → those p (map g ks) ≡ map g (those (λ j. p (g j)) ks) → cond t (g k ∷ those p (map g ks)) (those p (map g ks)) ≡ map g (cond t (k ∷ those (λ j. p (g j)) ks) (those (λ j. p (g j)) ks))
+      go : (t : Bool) → those p (map g ks) ≡ map g (those (λ j. p (g j)) ks) → cond t (g k ∷ those p (map g ks)) (those p (map g ks)) ≡ map g
+          (cond t (k ∷ those (λ j. p (g j)) ks) (those (λ j. p (g j)) ks))
       go true e = ap (λ (l : List ℕ). g k ∷ l) e
       go false e = e
 
@@ -54,7 +55,7 @@ module _ (g : ℕ → ℕ) where
   unfolding leastAmong
   among-map e k ks =
       let n : ℕ = length (k ∷ ks) in
-      let long : length (map g (k ∷ ks)) ≡ n = length-map g (k ∷ ks) in
+      let long : length (map g (k ∷ ks)) ≡ n = length-map (k ∷ ks) g in
       let at : (j : ℕ) → j < n → getD (map g (k ∷ ks)) j 0 ≡ g (getD (k ∷ ks) j 0) = λ j l. getD-map g (k ∷ ks) j 0 0 l in
       let d : ℕ → Float = λ j. e (g (getD (k ∷ ks) j 0)) in
       let same : leastOf lt (λ j. e (getD (map g (k ∷ ks)) j 0)) (length (map g (k ∷ ks))) ≡ leastOf lt d n =
@@ -71,7 +72,8 @@ module _ (g : ℕ → ℕ) where
 
   -- dark, light and ratio of places are those of what stands there
   bracket-map : (reduced : ℕ → ReducedColor) (normalized : ℕ → NormalizedColor) (oklab : ℕ → Oklab) (c : NormalizedColor) (a : ℕ) (s : Second)
-      → colored reduced (bracketTwo oklab normalized c (g a) (renamed g s)) ≡ colored (λ k. reduced (g k)) (bracketTwo (λ k. oklab (g k)) (λ k. normalized (g k)) c a s)
+      → colored reduced (bracketTwo oklab normalized c (g a) (renamed g s)) ≡ colored (λ k. reduced (g k))
+      (bracketTwo (λ k. oklab (g k)) (λ k. normalized (g k)) c a s)
   unfolding colored bracketWith
   bracket-map reduced normalized oklab c a Nothing = refl
   bracket-map reduced normalized oklab c a (At b) = go (le (oklab (g a) .l) (oklab (g b) .l)) _ _
@@ -102,12 +104,14 @@ in-append (x ∷ xs) y k (inr i) = elim (in-append xs y k i) [ inl h ↦ inl (in
 
 in-places : (m k : ℕ) → In k (places m) → (0 < k) × (k ≤ m)
 in-places zero k i = absurd i
-in-places (suc m) k i = elim (in-append (places m) (suc m) k i) [ inl h ↦ (in-places m k h .0, omega (arith, in-places m k h .1)) | inr e ↦ (omega (arith, e), omega (arith, e)) ]
+in-places (suc m) k i =
+    elim (in-append (places m) (suc m) k i) [ inl h ↦ (in-places m k h .0, omega (arith, in-places m k h .1)) | inr e ↦ (omega (arith, e), omega (arith, e)) ]
 
 -- what is no nearer than any is put behind all
 put-last : (d : ℕ → Float) (k : ℕ) (js : List ℕ) → ((j : ℕ) → In j js → lt (d k) (d j) ≡ false) → putIn d k js ≡ js ++ k ∷ []
 put-last d k [] h = refl
-put-last d k (j ∷ js) h = ap (λ (t : Bool). cond t (k ∷ j ∷ js) (j ∷ putIn d k js)) (h j (inl refl)) ∙ ap (λ (l : List ℕ). j ∷ l) (put-last d k js (λ i q. h i (inr q)))
+put-last d k (j ∷ js) h =
+    ap (λ (t : Bool). cond t (k ∷ j ∷ js) (j ∷ putIn d k js)) (h j (inl refl)) ∙ ap (λ (l : List ℕ). j ∷ l) (put-last d k js (λ i q. h i (inr q)))
 
 -- places whose distances do not fall, but for place 0, are ranked as they stand
 ranked-places : (d : ℕ → Float) (m n : ℕ) → ((i j : ℕ) → 0 < i → i ≤ j → j ≤ m → lt (d j) (d i) ≡ false) → n ≤ m → ranked d 0 (suc n) ≡ places n
@@ -127,18 +131,19 @@ map-behind g (x ∷ xs) y = ap (λ (l : List ℕ). g x ∷ l) (map-behind g xs y
 
 -- what stands at a place of the short list; beyond its end a position that none has
 abbrev pub standing : Candidates → ℕ → Oklab → ℕ → ℕ
-standing cs width o k = getD (shortOf cs width o) k (cs .count)
+standing cs width o k = getD (shortPositions cs width o) k (cs .count)
 
 -- the candidates of the short list, by place
 abbrev pub shortened : Candidates → ℕ → Oklab → Candidates
 shortened cs width o = record {
-  count = length (shortOf cs width o);
+  count = length (shortPositions cs width o);
   reduced = λ k. cs .reduced (standing cs width o k);
   normalized = λ k. cs .normalized (standing cs width o k);
   oklab = λ k. cs .oklab (standing cs width o k);
 }
 
-module _ (cs : Candidates) (width : ℕ) (o : Oklab) (c : NormalizedColor) (positive : 0 < cs .count) (range : (k : ℕ) → k < cs .count → T (allInRange (cs .oklab k))) (O : T (allInRange o)) where
+module _ (cs : Candidates) (width : ℕ) (o : Oklab) (c : NormalizedColor) (positive : 0 < cs .count) (range : (k : ℕ) → k < cs .count
+    → T (allInRange (cs .oklab k))) (O : T (allInRange o)) where
   abbrev a : ℕ
   a = nearestOf cs o
 
@@ -158,10 +163,12 @@ module _ (cs : Candidates) (width : ℕ) (o : Oklab) (c : NormalizedColor) (posi
   plain = distances-plain (cs .oklab) (cs .count) range (cs .oklab a) (range a (nearest-inside (cs .oklab) (cs .count) o positive))
 
   others-inside : (i : ℕ) → i < length js → getD js i (cs .count) < cs .count
-  others-inside i l = is-ranked d a (cs .count) plain .sound (getD js i (cs .count)) (in-take (clampWidth width) (ranked d a (cs .count)) (getD js i (cs .count)) (in-at (cs .count) js i l)) .0
+  others-inside i l =
+      is-ranked d a (cs .count) plain .sound (getD js i (cs .count)) (in-take (clampWidth width) (ranked d a (cs .count)) (getD js i (cs .count))
+      (in-at (cs .count) js i l)) .0
 
   -- what stands in the short list are positions of candidates
-  pub standing-inside : (k : ℕ) → k < length (shortOf cs width o) → standing cs width o k < cs .count
+  pub standing-inside : (k : ℕ) → k < length (shortPositions cs width o) → standing cs width o k < cs .count
   standing-inside zero l = nearest-inside (cs .oklab) (cs .count) o positive
   standing-inside (suc i) l = others-inside i (le-of-suc-le-suc l)
 
@@ -169,7 +176,7 @@ module _ (cs : Candidates) (width : ℕ) (o : Oklab) (c : NormalizedColor) (posi
   nearest-few : nearestOf few o ≡ 0
   nearest-few =
       let N = nearest-least cs o positive range O in
-      sym (least-past lt (distances o (few .oklab)) 1 (length (shortOf cs width o)) 0 (sym (least-one lt (distances o (few .oklab)))) (omega arith)
+      sym (least-past lt (distances o (few .oklab)) 1 (length (shortPositions cs width o)) 0 (sym (least-one lt (distances o (few .oklab)))) (omega arith)
       (λ k q l. is-false (lt (distances o (few .oklab) k) (distances o (few .oklab) 0)) (N .least (g k) (standing-inside k l))))
 
   -- the others stand in the order of their distances
@@ -190,7 +197,8 @@ module _ (cs : Candidates) (width : ℕ) (o : Oklab) (c : NormalizedColor) (posi
 
   places-are : (n : ℕ) → n ≤ length js → map g (places n) ≡ take n js
   places-are zero l = refl
-  places-are (suc n) l = map-behind g (places n) (suc n) ∙ ap (λ (xs : List ℕ). xs ++ g (suc n) ∷ []) (places-are n (omega arith)) ∙ sym (take-suc js n (cs .count) l)
+  places-are (suc n) l =
+      map-behind g (places n) (suc n) ∙ ap (λ (xs : List ℕ). xs ++ g (suc n) ∷ []) (places-are n (omega arith)) ∙ sym (take-suc js n (cs .count) l)
 
   -- ---- the same two, and the same bracket
   pub first-short : nearestTwoOf cs width o c .first ≡ g (nearestTwoOf few width o c .first)

@@ -17,7 +17,7 @@ use Rattle.conversion.specs.Oklab.{toOklab}
 use Rattle.shortlist.specs.Candidates.{Candidates}
 use Rattle.shortlist.specs.Nearest.{distances, nearestOf}
 use Rattle.shortlist.specs.Shortlist.{shortlistOf}
-use Rattle.records.specs.declared.passes.Kept.{Kept}
+use Rattle.records.specs.declared.passes.Entry.{Entry}
 use Rattle.records.specs.declared.passes.Pass.{Pass}
 use Rattle.records.specs.declared.shorts.Short.{Short}
 use Rattle.records.specs.Lists.{recordAt, candidatesOf, rangedTo, recordsNumber, reducedBytes, normalizedBytes, oklabFloats}
@@ -26,12 +26,19 @@ use Rattle.records.specs.Lists.{recordAt, candidatesOf, rangedTo, record
 abbrev pub farOf : List CandidateColor → Oklab → ℕ → Float
 farOf list o = distances o (candidatesOf list .oklab)
 
+-- how far the records are that are kept
+abbrev pub keptDistance : Entry → Float
+keptDistance e = e .far
+
+abbrev pub keptDistances : List Entry → List Float
+keptDistances kept = map keptDistance kept
+
 -- a record as it is kept
-abbrev pub entryOf : (ℕ → CandidateColor) → (ℕ → Float) → ℕ → Kept
+abbrev pub entryOf : (ℕ → CandidateColor) → (ℕ → Float) → ℕ → Entry
 entryOf at far k = record { color = at k; far = far k; position = k }
 
 -- an array of 16 begins with the entries js, n of them
-pub record Keeps (entry : ℕ → Kept) (js : List ℕ) (n : ℕ) (kept : List Kept) : Type 0 where
+pub record Keeps (entry : ℕ → Entry) (js : List ℕ) (n : ℕ) (kept : List Entry) : Type 0 where
   pub count : n ≡ length js
   pub front : take n kept ≡ map entry js
   pub room : length kept ≡ 16
@@ -52,16 +59,16 @@ pub record Passed (list : List CandidateColor) (o : Oklab) (a w k : ℕ) (s : Pa
   pub keeps : T (allInRange o) → T (rangedTo list k) → Keeps (entryOf (recordAt list) (farOf list o)) (shortlistOf (farOf list o) a k w) (s .count) (s .kept)
 
 -- ---- the short list: the nearest of some candidates and its shortlist, by position
-abbrev pub shortOf : Candidates → ℕ → Oklab → List ℕ
-shortOf cs width o = nearestOf cs o ∷ shortlistOf (distances (cs .oklab (nearestOf cs o)) (cs .oklab)) (nearestOf cs o) (cs .count) width
+abbrev pub shortPositions : Candidates → ℕ → Oklab → List ℕ
+shortPositions cs width o = nearestOf cs o ∷ shortlistOf (distances (cs .oklab (nearestOf cs o)) (cs .oklab)) (nearestOf cs o) (cs .count) width
 
 -- its records
 abbrev pub shortRecords : List CandidateColor → ℕ → NormalizedColor → List CandidateColor
-shortRecords list width color = map (recordAt list) (shortOf (candidatesOf list) width (toOklab color))
+shortRecords list width color = map (recordAt list) (shortPositions (candidatesOf list) width (toOklab color))
 
 -- a record and those kept after it
-abbrev pub inLine : CandidateColor → List Kept → List CandidateColor
-inLine first kept = first ∷ map (λ (e : Kept). e .color) kept
+abbrev pub inLine : CandidateColor → List Entry → List CandidateColor
+inLine first kept = first ∷ map (λ (e : Entry). e .color) kept
 
 -- flat lists begin with the n records of a list, taken apart
 pub record LaidIn (list : List CandidateColor) (n : ℕ) (rs ns : List ℕ) (os : List Float) : Type 0 where

@@ -22,7 +22,8 @@ recordAt list k = getD list k noRecord
 
 -- the records as candidates: what the definitions of the lookups choose from
 abbrev pub candidatesOf : List CandidateColor → Candidates
-candidatesOf list = record { count = length list; reduced = λ k. recordAt list k .reduced; normalized = λ k. recordAt list k .normalized; oklab = λ k. recordAt list k .oklab }
+candidatesOf list =
+    record { count = length list; reduced = λ k. recordAt list k .reduced; normalized = λ k. recordAt list k .normalized; oklab = λ k. recordAt list k .oklab }
 
 -- ---- taken apart
 abbrev pub reducedPiece : List CandidateColor → ℕ → List ℕ
@@ -51,13 +52,16 @@ abbrev pub rangedTo : List CandidateColor → ℕ → Bool
 rangedTo list zero = true
 rangedTo list (suc k) = rangedTo list k && allInRange (recordAt list k .oklab)
 
--- the numbers of a list, by its length and whether it is in range, and when each applies
-abbrev pub recordReplies : ℕ → Bool → List Reply
-recordReplies n ranged = (4 if not (countFits n)) ∷ (6 if not ranged) ∷ []
+-- the numbers, by a list's length and whether it is in range, and when each applies
+abbrev pub repliesBy : ℕ → Bool → List Reply
+repliesBy n ranged = (4 if not (countFits n)) ∷ (6 if not ranged) ∷ []
 
 unfoldable pub numberBy : ℕ → Bool → ℕ
-numberBy n ranged = firstReply (recordReplies n ranged)
+numberBy n ranged = firstReply (repliesBy n ranged)
 
--- the number of a list: 0 where it is accepted
+-- of a list; its number is 0 where it is accepted
+abbrev pub recordReplies : List CandidateColor → List Reply
+recordReplies list = repliesBy (length list) (rangedTo list (length list))
+
 abbrev pub recordsNumber : List CandidateColor → ℕ
 recordsNumber list = numberBy (length list) (rangedTo list (length list))

@@ -1,8 +1,8 @@
 // The lookups over the caller's list of candidate records: `nearest`, `nearest_two` and `ordered_bracket` of
 // src/dither.rs, with its names and orders of parameters. `scan` has the one loop over the list; what it does with a
 // record is in `passes`, what is done with the few records that are left in `shorts`, which calls the flat lookups.
-pub mod passes;
-pub mod shorts;
+mod passes;
+mod shorts;
 
 use color::CandidateColor;
 use color::NormalizedColor;
@@ -16,11 +16,10 @@ use shorts::bracket_of;
 use shorts::chosen;
 use shorts::joined;
 use shorts::two_of;
-ghost use mathlib.Core.Path.{_≡_};
 ghost use Prim.Native.Nat.{ℕ};
 ghost use lib.ListN.{length};
 ghost use Rattle.color.specs.declared.Oklab.{Oklab as Lab};
-ghost use Rattle.records.specs.Answers.{nearestRecord, nearestTwoRecords, recordsBracket};
+ghost use Rattle.records.specs.Answers.{NearestRecord, NearestTwoRecords, RecordsBracket};
 ghost use Rattle.records.specs.Keeping.{Passed, Roomy, Shortened};
 
 // What `nearest` answers.
@@ -63,7 +62,7 @@ fn shortened(color: NormalizedColor, list: &[CandidateColor], width: u64) -> Sho
 
 // The nearest record, the first of equals.
 pub fn nearest(list: &[CandidateColor], color: NormalizedColor) -> FoundRecord
-    ensures { λ r. ⌜ r ≡ nearestRecord (now (list .entry)) color ⌝ }
+    ensures { λ r. ⌜ NearestRecord (now (list .entry)) color r ⌝ }
 {
     let len = list.len();
     chosen(len, scan(list, toward(color, len)))
@@ -71,14 +70,14 @@ pub fn nearest(list: &[CandidateColor], color: NormalizedColor) -> FoundRecord
 
 // The nearest record and the second.
 pub fn nearest_two(color: NormalizedColor, list: &[CandidateColor], width: u64) -> FoundRecords
-    ensures { λ r. ⌜ r ≡ nearestTwoRecords (now (list .entry)) color width ⌝ }
+    ensures { λ r. ⌜ NearestTwoRecords (now (list .entry)) color width r ⌝ }
 {
     two_of(shortened(color, list, width), color, width)
 }
 
 // The two colours that an ordered dither alternates between, and the share of the lighter.
 pub fn ordered_bracket(color: NormalizedColor, list: &[CandidateColor], width: u64) -> FoundBracket
-    ensures { λ r. ⌜ r ≡ recordsBracket (now (list .entry)) color width ⌝ }
+    ensures { λ r. ⌜ RecordsBracket (now (list .entry)) color width r ⌝ }
 {
     bracket_of(shortened(color, list, width), color, width)
 }

@@ -9,7 +9,7 @@ use color::sqdist;
 use conversion::to_oklab;
 use mixing::clamp_width;
 ghost use mathlib.Core.Path.{_≡_};
-ghost use mathlib.Core.List.{List, map};
+ghost use mathlib.Core.List.{List};
 ghost use Prim.Native.Nat.{ℕ, _+_, _<_, _≤_};
 ghost use lib.Dec.{T};
 ghost use lib.ListN.{length, take};
@@ -22,13 +22,12 @@ ghost use Rattle.color.specs.Oklab.{allInRange};
 ghost use Rattle.conversion.specs.Oklab.{toOklab};
 ghost use Rattle.mixing.specs.Widths.{clampWidth};
 ghost use Rattle.shortlist.specs.Nearest.{nearestOf};
-ghost use Rattle.shortlist.specs.Shortlist.{putIn, ranked, placeOf};
-ghost use Rattle.records.specs.declared.passes.Kept.{Kept as Entry};
+ghost use Rattle.shortlist.specs.Shortlist.{putIn, ranked, placeAmong};
 ghost use Rattle.records.specs.Lists.{recordAt, candidatesOf, recordsNumber};
-ghost use Rattle.records.specs.Keeping.{entryOf, Keeps, Same, Passed};
+ghost use Rattle.records.specs.Keeping.{keptDistances, entryOf, Keeps, Same, Passed};
 
 // A record that is kept: a copy of it, how far it is, and where it stands.
-pub struct Kept {
+pub struct Entry {
     pub color: CandidateColor,
     pub far: f32,
     pub position: usize,
@@ -42,13 +41,13 @@ pub struct Pass {
     pub width: u64,
     pub ranged: bool,
     pub count: usize,
-    pub kept: [Kept; 16],
+    pub kept: [Entry; 16],
 }
 
 // Puts x in its place among the first `last`: those behind it move one place, and what stood at `last` is lost.
-fn settle(kept: [Kept; 16], last: usize, x: Kept) -> [Kept; 16]
+fn settle(kept: [Entry; 16], last: usize, x: Entry) -> [Entry; 16]
     requires { ⌜ last < 16 ⌝ }
-    ensures { λ r. ⌜ r ≡ slid (placeOf (x .far) (map (λ (e : Entry). e .far) kept) last) last x kept ⌝ }
+    ensures { λ r. ⌜ r ≡ slid (placeAmong (x .far) (keptDistances kept) last) last x kept ⌝ }
 {
     let mut kept = kept;
     let mut i = last;
@@ -62,7 +61,7 @@ fn settle(kept: [Kept; 16], last: usize, x: Kept) -> [Kept; 16]
 
 // Puts x among those kept, at most the width. What is as far as the last of a full shortlist stays out, since its position
 // is higher.
-fn add(s: Pass, x: Kept) -> Pass
+fn add(s: Pass, x: Entry) -> Pass
     ensures { λ r. ⌜ Same s r × ((at : ℕ → Rec) (f : ℕ → Float) (a k : ℕ) → ((j : ℕ) → j ≤ k → Upto 112 (f j)) → x ≡ entryOf at f k
         → Keeps (entryOf at f) (take (clampWidth (s .width)) (ranked f a k)) (s .count) (s .kept)
         → Keeps (entryOf at f) (take (clampWidth (s .width)) (putIn f k (ranked f a k))) (r .count) (r .kept)) ⌝ }
@@ -99,7 +98,7 @@ pub fn step(s: Pass, k: usize, c: CandidateColor) -> Pass
     let far = sqdist(target, o);
     add(
         r,
-        Kept {
+        Entry {
             color: c,
             far,
             position: k,
@@ -111,7 +110,7 @@ pub fn step(s: Pass, k: usize, c: CandidateColor) -> Pass
 fn begun(target: Oklab, skip: usize, width: u64) -> Pass
     ensures { λ r. ⌜ ((list : List Rec) → Passed list target skip width 0 r) ⌝ }
 {
-    let nothing = Kept {
+    let nothing = Entry {
         color: CandidateColor {
             reduced: ReducedColor::TRANSPARENT,
             normalized: NormalizedColor::TRANSPARENT,

@@ -2,7 +2,7 @@
 // nearest record and its shortlist, taken apart into flat arrays, over which the flat lookups choose.
 use super::FoundRecord;
 use super::FoundRecords;
-use super::passes::Kept;
+use super::passes::Entry;
 use super::passes::Pass;
 use color::CandidateColor;
 use color::NormalizedColor;
@@ -15,6 +15,7 @@ use lookup::FoundBracket;
 use lookup::FoundTwo;
 use lookup::Second;
 use lookup::Two;
+use lookup::count_fits;
 use lookup::flat_nearest_two;
 use lookup::flat_ordered_bracket;
 ghost use mathlib.Core.Path.{_≡_};
@@ -29,7 +30,7 @@ ghost use Rattle.color.specs.Oklab.{allInRange, floatsOf};
 ghost use Rattle.conversion.specs.Oklab.{toOklab};
 ghost use Rattle.shortlist.specs.Nearest.{nearestOf};
 ghost use Rattle.records.specs.Lists.{recordAt, candidatesOf, numberBy, recordsNumber};
-ghost use Rattle.records.specs.Answers.{recordsAt, nearestRecord, nearestTwoRecords, recordsBracket};
+ghost use Rattle.records.specs.Answers.{recordsAt, NearestRecord, NearestTwoRecords, RecordsBracket};
 ghost use Rattle.records.specs.Keeping.{Passed, inLine, LaidIn, Roomy, recordIn, Shortened};
 
 // The number of the list, and at most 17 records taken apart.
@@ -45,7 +46,7 @@ pub struct Short {
 fn refusal(len: usize, ranged: bool) -> u8
     ensures { λ r. ⌜ r ≡ numberBy len ranged ⌝ }
 {
-    if !((0 < len) & !(65536 < len)) {
+    if !count_fits(len) {
         return 4;
     }
     if !ranged {
@@ -57,7 +58,7 @@ fn refusal(len: usize, ranged: bool) -> u8
 // The answer of `nearest` after its pass.
 pub fn chosen(len: usize, near: Pass) -> FoundRecord
     ensures { λ r. ⌜ ((list : List Rec) (color : NormalizedColor) → len ≡ length list → T (allInRange (toOklab color))
-        → Passed list (toOklab color) (length list) 1 (length list) near → r ≡ nearestRecord list color) ⌝ }
+        → Passed list (toOklab color) (length list) 1 (length list) near → NearestRecord list color r) ⌝ }
 {
     let number = refusal(len, near.ranged);
     if number != 0 {
@@ -88,7 +89,7 @@ fn put_record(
 }
 
 // Record i of a record and those kept after it. No public call: the caller sees to i.
-fn nth(first: CandidateColor, kept: [Kept; 16], i: usize) -> CandidateColor
+fn nth(first: CandidateColor, kept: [Entry; 16], i: usize) -> CandidateColor
     requires { ⌜ i < 17 ⌝ }
     ensures { λ c. ⌜ c ≡ recordAt (inLine first kept) i ⌝ }
 {
@@ -102,7 +103,7 @@ fn nth(first: CandidateColor, kept: [Kept; 16], i: usize) -> CandidateColor
 // Lays down the first `total` of a record and those kept after it. No public call: the caller sees to the lengths.
 fn lay(
     first: CandidateColor,
-    kept: [Kept; 16],
+    kept: [Entry; 16],
     total: usize,
     reduced: &mut [u8],
     normalized: &mut [u8],
@@ -132,7 +133,8 @@ fn total_of(count: usize) -> usize
 pub fn joined(len: usize, near: Pass, others: Pass) -> Short
     ensures { λ r. ⌜ Roomy r × ((list : List Rec) (color : NormalizedColor) (width : ℕ) → len ≡ length list → T (allInRange (toOklab color))
         → Passed list (toOklab color) (length list) 1 (length list) near
-        → (recordsNumber list ≡ 0 → Passed list (recordAt list (nearestOf (candidatesOf list) (toOklab color)) .oklab) (nearestOf (candidatesOf list) (toOklab color)) width (length list) others)
+        → (recordsNumber list ≡ 0 → Passed list (recordAt list (nearestOf (candidatesOf list) (toOklab color)) .oklab)
+        (nearestOf (candidatesOf list) (toOklab color)) width (length list) others)
         → Shortened list width color r) ⌝ }
 {
     let number = refusal(len, near.ranged);
@@ -180,7 +182,8 @@ fn record_in(s: Short, i: usize) -> CandidateColor
 fn records_in(s: Short, two: Two) -> FoundRecords
     requires { ⌜ Roomy s × (two .first < 17) × ((b : ℕ) → two .second ≡ Second.At b → b < 17) ⌝ }
     ensures { λ r. ⌜ ((list : List Rec) → recordIn (s .reduced) (s .normalized) (s .oklab) (two .first) ≡ recordAt list (two .first)
-        → ((b : ℕ) → two .second ≡ Second.At b → recordIn (s .reduced) (s .normalized) (s .oklab) b ≡ recordAt list b) → r ≡ recordsAt list (two .first) (two .second)) ⌝ }
+        → ((b : ℕ) → two .second ≡ Second.At b → recordIn (s .reduced) (s .normalized) (s .oklab) b ≡ recordAt list b)
+        → r ≡ recordsAt list (two .first) (two .second)) ⌝ }
 {
     let a = record_in(s, two.first);
     let second = two.second;
@@ -193,7 +196,7 @@ fn records_in(s: Short, two: Two) -> FoundRecords
 // The answer of `nearest_two` over the short list. No public call: the caller sees to the arrays.
 pub fn two_of(s: Short, color: NormalizedColor, width: u64) -> FoundRecords
     requires { ⌜ Roomy s ⌝ }
-    ensures { λ r. ⌜ ((list : List Rec) → Shortened list width color s → r ≡ nearestTwoRecords list color width) ⌝ }
+    ensures { λ r. ⌜ ((list : List Rec) → Shortened list width color s → NearestTwoRecords list color width r) ⌝ }
 {
     let number = s.number;
     if number != 0 {
@@ -219,7 +222,7 @@ pub fn two_of(s: Short, color: NormalizedColor, width: u64) -> FoundRecords
 // The answer of `ordered_bracket` over the short list. No public call: the caller sees to the arrays.
 pub fn bracket_of(s: Short, color: NormalizedColor, width: u64) -> FoundBracket
     requires { ⌜ Roomy s ⌝ }
-    ensures { λ r. ⌜ ((list : List Rec) → Shortened list width color s → r ≡ recordsBracket list color width) ⌝ }
+    ensures { λ r. ⌜ ((list : List Rec) → Shortened list width color s → RecordsBracket list color width r) ⌝ }
 {
     let number = s.number;
     if number != 0 {

@@ -39,7 +39,8 @@ self x = not-T (lt x x) (lt-irreflexive x)
 
 module _ (d : ℕ → Float) (reach : Float) where
   pub lead-begin : (n : ℕ) (x : Float) → 0 < n → x ≡ d 0 → Leads d reach n 0 (record { position = 0; distance = x })
-  lead-begin n x h e = record { inside = h; behind = omega arith; away = e; least = λ j l. absurd (not-suc-le-zero l); first = λ j l. absurd (not-suc-le-zero l) }
+  lead-begin n x h e =
+      record { inside = h; behind = omega arith; away = e; least = λ j l. absurd (not-suc-le-zero l); first = λ j l. absurd (not-suc-le-zero l) }
 
   known : (n : ℕ) → ((j : ℕ) → j < n → Upto 112 (d j)) → (j : ℕ) → j < n → Plain (d j)
   known n u j h = upto-plain 112 (d j) (u j h)
@@ -52,7 +53,8 @@ module _ (d : ℕ → Float) (reach : Float) where
       behind = omega arith;
       away = e;
       least = below-more (λ (j : ℕ). T (not (lt reach (d j))) → T (not (lt (d j) x))) k
-          (λ j l q. nlt-trans x (leader .distance) (d j) px pl (known n u j (omega arith)) (lt-asymmetric x (leader .distance) px pl (holds t)) (s .least j l q))
+          (λ j l q. nlt-trans x (leader .distance) (d j) px pl (known n u j (omega arith)) (lt-asymmetric x (leader .distance) px pl (holds t))
+          (s .least j l q))
           (λ _. subst (λ (y : Float). T (not (lt y x))) e (self x));
       first = λ j _ q l. lt-nlt-trans x (leader .distance) (d j) px pl (known n u j (omega arith)) (holds t) (s .least j l q);
     }
@@ -82,7 +84,8 @@ module _ (d : ℕ → Float) (reach : Float) where
         never l b = omega arith
 
   -- m entries that are all farther than the leader or than the reach
-  pub lead-past : (leader : Leader) (k m : ℕ) (limit : Float) (t : Bool) → limit ≡ lesserOf reach (leader .distance) → t ≡ farther d limit k m → t ≡ true → Onward d reach k (k + m) leader leader
+  pub lead-past : (leader : Leader) (k m : ℕ) (limit : Float) (t : Bool) → limit ≡ lesserOf reach (leader .distance) → t ≡ farther d limit k m → t ≡ true
+      → Onward d reach k (k + m) leader leader
   unfolding lesserOf
   lead-past leader k m limit t c e g n h u s = record {
     inside = s .inside;
@@ -110,13 +113,16 @@ module _ (d : ℕ → Float) (reach : Float) where
           go false p q = b (q refl)
 
 -- all entries are seen, and so is the one whose distance is the reach
-pub lead-end : (d : ℕ → Float) (n seed : ℕ) (leader : Leader) → seed < n → ((j : ℕ) → j < n → Upto 112 (d j)) → Leads d (d seed) n n leader → leader .position ≡ leastOf lt d n
+pub lead-end : (d : ℕ → Float) (n seed : ℕ) (leader : Leader) → seed < n → ((j : ℕ) → j < n → Upto 112 (d j)) → Leads d (d seed) n n leader
+    → leader .position ≡ leastOf lt d n
 lead-end d n seed leader h u s =
     least-only
     (record {
       inside = s .inside;
-      least = λ j l. subst (λ (y : Float). T (not (lt (d j) y))) (s .away) (within j l (s .least j l) (λ f. lt-asymmetric (leader .distance) (d j) pl (plain j l) f));
-      first = λ j l. subst (λ (y : Float). T (lt y (d j))) (s .away) (within j (omega (arith, s .inside)) (λ q. s .first j (omega (arith, s .inside)) q l) (λ f. f));
+      least = λ j l. subst (λ (y : Float). T (not (lt (d j) y))) (s .away)
+          (within j l (s .least j l) (λ f. lt-asymmetric (leader .distance) (d j) pl (plain j l) f));
+      first = λ j l. subst (λ (y : Float). T (lt y (d j))) (s .away) (within j (omega (arith, s .inside)) (λ q. s .first j (omega (arith, s .inside)) q l)
+          (λ f. f));
     })
     (least-is by-lt n (omega arith) plain)
   where

@@ -1,6 +1,7 @@
 -- The laws of `shortlist`.
 pub mod NearestLaws
 mod LeaderLaws
+pub mod MapLaws
 pub mod PlaceLaws
 mod InsertLaws
 pub mod RankedLaws

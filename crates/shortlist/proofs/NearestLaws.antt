@@ -28,7 +28,8 @@ distance-plain p q P Q = upto-plain 112 (sqdistOf p q) (distance-upto p q (all-i
 -- one is below the other, or they are the same
 pub distance-order : (o p q : Oklab) → T (allInRange o) → T (allInRange p) → T (allInRange q)
     → T (lt (sqdistOf o p) (sqdistOf o q)) ⊎ ((sqdistOf o p ≡ sqdistOf o q) ⊎ T (lt (sqdistOf o q) (sqdistOf o p)))
-distance-order o p q O P Q = trichotomy binary32 (sqdistOf o p) (sqdistOf o q) (distance-plain o p O P) (distance-plain o q O Q) (distance-fits o p) (distance-fits o q)
+distance-order o p q O P Q =
+    trichotomy binary32 (sqdistOf o p) (sqdistOf o q) (distance-plain o p O P) (distance-plain o q O Q) (distance-fits o p) (distance-fits o q)
 
 module _ (oklab : ℕ → Oklab) (n : ℕ) (range : (k : ℕ) → k < n → T (allInRange (oklab k))) (o : Oklab) (O : T (allInRange o)) where
   pub distances-upto : (k : ℕ) → k < n → Upto 112 (distances o oklab k)
@@ -47,7 +48,8 @@ pub nearest-least : (cs : Candidates) (o : Oklab) → 0 < cs .count → ((k : �
 nearest-least cs o h range O = least-is by-lt (cs .count) h (distances-plain (cs .oklab) (cs .count) range o O)
 
 -- and there is one such alone
-pub nearest-only : (cs : Candidates) (o : Oklab) (r q : ℕ) → Least lt (distances o (cs .oklab)) (cs .count) r → Least lt (distances o (cs .oklab)) (cs .count) q → r ≡ q
+pub nearest-only : (cs : Candidates) (o : Oklab) (r q : ℕ) → Least lt (distances o (cs .oklab)) (cs .count) r → Least lt (distances o (cs .oklab)) (cs .count) q
+    → r ≡ q
 nearest-only cs o r q = least-only
 
 pub nearest-inside : (oklab : ℕ → Oklab) (n : ℕ) (o : Oklab) → 0 < n → nearestIn oklab n o < n

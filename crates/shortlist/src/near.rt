@@ -1,9 +1,9 @@
 // The nearest entry of a flat list of Oklab colours. A short list is searched entry by entry; a longer one eight entries at a
 // time: eight that are all farther than the leader, or all farther than a seed, are passed over. Where the last search ended
 // is a good seed; it changes nothing but the time.
+use super::away::distance_to;
+use super::away::eight_farther;
 use color::Oklab;
-use color::oklab_at;
-use color::sqdist;
 ghost use mathlib.Core.Path.{_≡_};
 ghost use Prim.Native.Nat.{ℕ, _+_, _*_, _<_, _≤_};
 ghost use lib.Dec.{T};
@@ -11,44 +11,12 @@ ghost use lib.ListN.{length};
 ghost use lib.Ieee.{Float};
 ghost use Rattle.color.specs.Oklab.{allInRange, oklabAt};
 ghost use Rattle.shortlist.specs.Candidates.{RangedList};
-ghost use Rattle.shortlist.specs.Nearest.{distances, nearestIn, farther, lesserOf, Onward};
+ghost use Rattle.shortlist.specs.Nearest.{distances, nearestIn, lesserOf, Onward};
 
 // The entry in front so far, and its distance.
-pub struct Leader {
-    pub position: usize,
-    pub distance: f32,
-}
-
-// How far entry k is from a colour. No public call: the caller sees to the length.
-pub fn distance_to(oklab: &[f32], k: usize, o: Oklab) -> f32
-    requires { ⌜ 3 * k + 2 < length (now oklab) ⌝ }
-    ensures { λ r. ⌜ r ≡ distances o (oklabAt (now (oklab .entry))) k ⌝ }
-{
-    sqdist(o, oklab_at(oklab, k))
-}
-
-// Whether the eight entries from k on are all farther than a limit. No branch, so that the eight are worked out side by side.
-// No public call: the caller sees to the length.
-pub fn eight_farther(oklab: &[f32], k: usize, o: Oklab, limit: f32) -> bool
-    requires { ⌜ 3 * k + 23 < length (now oklab) ⌝ }
-    ensures { λ r. ⌜ r ≡ farther (distances o (oklabAt (now (oklab .entry)))) limit k 8 ⌝ }
-{
-    let d0 = distance_to(oklab, k, o);
-    let d1 = distance_to(oklab, k + 1, o);
-    let d2 = distance_to(oklab, k + 2, o);
-    let d3 = distance_to(oklab, k + 3, o);
-    let d4 = distance_to(oklab, k + 4, o);
-    let d5 = distance_to(oklab, k + 5, o);
-    let d6 = distance_to(oklab, k + 6, o);
-    let d7 = distance_to(oklab, k + 7, o);
-    (limit < d0)
-        & (limit < d1)
-        & (limit < d2)
-        & (limit < d3)
-        & (limit < d4)
-        & (limit < d5)
-        & (limit < d6)
-        & (limit < d7)
+struct Leader {
+    position: usize,
+    distance: f32,
 }
 
 // The lesser of two distances, the first of equals.

@@ -1,12 +1,12 @@
 -- `judging::add_pixel` meets its contract: the number joins the others as its colour would, or the pixel is transparent. Assumes nothing.
 use mathlib.Core.Path.{sym, _∙_}
 use borrow.Author.Needs.{needs}
-use Rattle.judging.proofs.KeyLaws.{turned-opaque, turned-not}
+use Rattle.judging.proofs.KeyLaws.{turned-shown, turned-not}
 use Rattle.judging.proofs.add_pixel.Statement.{statement}
 use Rattle.judging.proofs.add_pixel.Tie as tie
 
-is-opaque-requires : tie.Need-is-opaque-requires
-is-opaque-requires c κs = search needs
+is-seen-requires : tie.Need-is-seen-requires
+is-seen-requires c κs = search needs
 
 key-at-requires : tie.Need-key-at-requires
 key-at-requires c κs = search needs
@@ -21,12 +21,13 @@ returns : tie.Need-returns
 returns c =
     let k = c .before .before .before in
     let t = k .before .before in
-    turned-opaque (search needs) (k .key-at .result) (sym (t .before .is-opaque .ensures) ∙ t .if1 .taken) (k .key-at .ensures) (c .before .before .add-key .ensures)
+    turned-shown (search needs) (k .key-at .result) (sym (t .before .is-seen .ensures) ∙ t .if1 .taken) (k .key-at .ensures)
+    (c .before .before .add-key .ensures)
 
 returns-2 : tie.Need-returns-2
-returns-2 c = turned-not (search needs) (sym (c .before .is-opaque .ensures) ∙ c .if1 .left)
+returns-2 c = turned-not (search needs) (sym (c .before .is-seen .ensures) ∙ c .if1 .left)
 
 pub add-pixel-spec : {M : Type 1} → statement M
 add-pixel-spec =
     tie.close
-    (tie.spec is-opaque-requires key-at-requires add-key-requires same-length returns returns-2)
+    (tie.spec is-seen-requires key-at-requires add-key-requires same-length returns returns-2)

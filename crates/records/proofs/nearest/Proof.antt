@@ -1,7 +1,7 @@
 -- `records::nearest` meets its contract: a walk of its MIR, by hand. It calls `toward`, `scan` and `chosen`, of which all that the proof knows is that
 -- they meet their contracts. The slice is Copy: what it owns is had twice, one copy goes to `scan` beside the lifetime's token, which comes back, and
 -- one is kept for the exit. What a plain value owns is made anew for each call. Assumes nothing.
-use mathlib.Core.Path.{_≡_, refl}
+use mathlib.Core.Path.{refl}
 use Prim.Native.Nat.{ℕ, _<_, _^_}
 use mathlib.Core.List.{List, [], _∷_}
 use lib.ListN.{length}
@@ -18,7 +18,8 @@ use contract.Monad.{Fun}
 use contract.Running.{givenOf, tables, tablesOf}
 use types.Kit.{Given, ‵, raw, _⊛_, ⋆, _$_, _∵_, !, qed, by, move, drop, use0, use1, use2, split, join, fsplit, fjoin, suffices, frame, done}
 use types.Part.{whole, sub, look-in}
-use types.Run.{look, init, forget, stop, fld, from, load, of-opd, and-then, no-more, assigns, land, returns, enter, alloc1, alloc0, params1, pass1, pass0, free1, free0}
+use types.Run.{look, init, forget, stop, fld, from, load, of-opd, and-then, no-more}
+use types.Run.{assigns, land, returns, enter, alloc1, alloc0, params1, pass1, pass0, free1, free0}
 use sound.WpLaws.{FmC, fmOf, WpFn-mono}
 use denote.RattleType.{owns}
 use denote.Laws.{Is}
@@ -42,7 +43,7 @@ use Rattle.color.specs.declared.NormalizedColor.{NormalizedColor}
 use Rattle.conversion.specs.Oklab.{toOklab}
 use Rattle.records.specs.declared.passes.Pass.{Pass}
 use Rattle.records.specs.declared.FoundRecord.{FoundRecord}
-use Rattle.records.specs.Answers.{nearestRecord}
+use Rattle.records.specs.Answers.{NearestRecord}
 use Rattle.records.proofs.Told.{told, told-plain}
 use Rattle.records.proofs.Said.{Begun, Scanned, Chose}
 use Rattle.color.proofs.CandidateColor as T
@@ -83,7 +84,8 @@ module _ {M : Type 1} (𝓤 : URA M) (H : Heap 𝓤) (A : Atoms 𝓤) (mem : Mem
   abbrev ChosenC : Contract 𝓤
   ChosenC = tripleOf 𝓤 H A chosen.signature (chosen.spec 𝓤 H A mem run)
 
-module _ {M : Type 1} (𝓤 : URA M) (H : Heap 𝓤) (A : Atoms 𝓤) (W : Given 𝓤 H A) (mem : Memory → SProp 𝓤) (run : Routine → Fun 𝓤) (κ : Lft) (q : Share) (b o : ℕ) (γ : GName) (ys : List CandidateColor) (t : NormalizedColor) where
+module _ {M : Type 1} (𝓤 : URA M) (H : Heap 𝓤) (A : Atoms 𝓤) (W : Given 𝓤 H A) (mem : Memory → SProp 𝓤) (run : Routine → Fun 𝓤) (κ : Lft) (q : Share) (b o : ℕ)
+    (γ : GName) (ys : List CandidateColor) (t : NormalizedColor) where
   abbrev n : ℕ
   n = length ys
 
@@ -102,10 +104,12 @@ module _ {M : Type 1} (𝓤 : URA M) (H : Heap 𝓤) (A : Atoms 𝓤) (W : Given
   abbrev Post : Val → SProp 𝓤
   Post = walkOf 𝓤 H A f.ended stayed (f.clauses 𝓤 H A mem run) .post (((κ, tt), (q, tt), tt, (list, (t, tt)), at), tt)
 
-  exits : (r : FoundRecord) (v : Val) → r ≡ nearestRecord ys t → ent 𝓤 (⋆ 𝓤 H A (‵ (R.the-row .own r (v ∷ [])) ∷ (‵ (flft κ q) ⊛ ‵ ftrue) ∷ ‵ Own ∷ ‵ (owns (O.the-row ∷ []) (t, tt) (mt ∷ [], tt)) ∷ [])) (Post v)
+  exits : (r : FoundRecord) (v : Val) → NearestRecord ys t r
+      → ent 𝓤 (⋆ 𝓤 H A (‵ (R.the-row .own r (v ∷ [])) ∷ (‵ (flft κ q) ⊛ ‵ ftrue) ∷ ‵ Own ∷ ‵ (owns (O.the-row ∷ []) (t, tt) (mt ∷ [], tt)) ∷ [])) (Post v)
   exits r v e =
       qed W (‵ (R.the-row .own r (v ∷ [])) ∷ (‵ (flft κ q) ⊛ ‵ ftrue) ∷ ‵ Own ∷ ‵ (owns (O.the-row ∷ []) (t, tt) (mt ∷ [], tt)) ∷ []) ∵
-      suffices ! _ (ends-at 𝓤 H A f.ended stayed (f.clauses 𝓤 H A mem run) W (((κ, tt), (q, tt), tt, (list, (t, tt)), at), tt) v r (tt, (tt, tt)) (tt, (tt, tt))) $ says ! e $
+      suffices ! _ (ends-at 𝓤 H A f.ended stayed (f.clauses 𝓤 H A mem run) W (((κ, tt), (q, tt), tt, (list, (t, tt)), at), tt) v r (tt, (tt, tt))
+      (tt, (tt, tt))) $ says ! e $
       move ! (1 ∷ []) $ frame ! $ move ! (1 ∷ 2 ∷ []) $ fjoin ! $ frame ! $ done !
 
   -- ---- the calls: what each is passed, what it asks, and what it says
@@ -120,8 +124,13 @@ module _ {M : Type 1} (𝓤 : URA M) (H : Heap 𝓤) (A : Atoms 𝓤) (W : Given
   abbrev to-scan : Pass → Val → ScanC 𝓤 H A mem run .Ghost
   to-scan s v = (((κ, tt), (q, tt), tt, (list, (s, tt)), (sliceVal (b, o) n ∷ [], (v ∷ [], tt))), tt)
 
-  asks-scan : (s : Pass) (v : Val) → ent 𝓤 (sep 𝓤 (sep 𝓤 (A .lft κ q) (emp 𝓤)) (sem 𝓤 H A (owns (ShrSlice (named 0) κ T.the-row ∷ N.the-row ∷ []) (list, (s, tt)) (sliceVal (b, o) n ∷ [], (v ∷ [], tt))))) (ScanC 𝓤 H A mem run .pre (to-scan s v))
-  asks-scan s v = qed W ((‵ (flft κ q) ⊛ ‵ ftrue) ∷ ‵ (owns (ShrSlice (named 0) κ T.the-row ∷ N.the-row ∷ []) (list, (s, tt)) (sliceVal (b, o) n ∷ [], (v ∷ [], tt))) ∷ []) ∵ join ! $ frame ! $ done !
+  asks-scan : (s : Pass) (v : Val)
+      → ent 𝓤 (sep 𝓤 (sep 𝓤 (A .lft κ q) (emp 𝓤))
+      (sem 𝓤 H A (owns (ShrSlice (named 0) κ T.the-row ∷ N.the-row ∷ []) (list, (s, tt)) (sliceVal (b, o) n ∷ [], (v ∷ [], tt)))))
+      (ScanC 𝓤 H A mem run .pre (to-scan s v))
+  asks-scan s v =
+      qed W ((‵ (flft κ q) ⊛ ‵ ftrue) ∷ ‵ (owns (ShrSlice (named 0) κ T.the-row ∷ N.the-row ∷ []) (list, (s, tt)) (sliceVal (b, o) n ∷ [], (v ∷ [], tt))) ∷ [])
+      ∵ join ! $ frame ! $ done !
 
   abbrev to-chosen : Pass → Val → ChosenC 𝓤 H A mem run .Ghost
   to-chosen s v = ((tt, tt, tt, (n, (s, tt)), (vint w64 n ∷ [], (v ∷ [], tt))), tt)
@@ -131,46 +140,65 @@ module _ {M : Type 1} (𝓤 : URA M) (H : Heap 𝓤) (A : Atoms 𝓤) (W : Given
       qed W [] ∵ nothing ! $ nothing ! $ owned ! N.the-row (Is N.the-row) (LL.makes N.the-type N′.the-plain 𝓤 H A) s _ gs $ fjoin ! $
       owned ! usize (Is usize) (uint-makes 𝓤 H A W w64) n _ (refl, gn) $ fjoin ! $ move ! (1 ∷ 0 ∷ []) $ join ! $ frame ! $ done !
 
-  module _ (C : Calls 𝓤 H) (Λ : Loops 𝓤 H) (fm : FmC 𝓤 H (W .laws) C) (known-toward : Triple 𝓤 (C #toward) (TowardC 𝓤 H A mem run)) (known-scan : Triple 𝓤 (C #scan) (ScanC 𝓤 H A mem run)) (known-chosen : Triple 𝓤 (C #chosen) (ChosenC 𝓤 H A mem run)) where
-    walk : Room T.the-row n → Is O.the-row t (mt ∷ []) → ent 𝓤 (onEntry 𝓤 H A f.signature (κ, tt) (q, tt) (list, (t, tt)) at) (WpFn 𝓤 H C Λ code.function (sliceVal (b, o) n ∷ mt ∷ []) Post)
+  module _ (C : Calls 𝓤 H) (Λ : Loops 𝓤 H) (fm : FmC 𝓤 H (W .laws) C) (known-toward : Triple 𝓤 (C #toward) (TowardC 𝓤 H A mem run))
+      (known-scan : Triple 𝓤 (C #scan) (ScanC 𝓤 H A mem run)) (known-chosen : Triple 𝓤 (C #chosen) (ChosenC 𝓤 H A mem run)) where
+    walk : Room T.the-row n → Is O.the-row t (mt ∷ []) → ent 𝓤 (onEntry 𝓤 H A f.signature (κ, tt) (q, tt) (list, (t, tt)) at)
+        (WpFn 𝓤 H C Λ code.function (sliceVal (b, o) n ∷ mt ∷ []) Post)
     walk gn gt =
-        qed W ((‵ (flft κ q) ⊛ ‵ ftrue) ∷ ‵ (owns (ShrSlice (named 0) κ T.the-row ∷ O.the-row ∷ []) (list, (t, tt)) at) ∷ []) ∵ enter ! C Λ code.function (sliceVal (b, o) n ∷ mt ∷ []) _ $
+        qed W ((‵ (flft κ q) ⊛ ‵ ftrue) ∷ ‵ (owns (ShrSlice (named 0) κ T.the-row ∷ O.the-row ∷ []) (list, (t, tt)) at) ∷ []) ∵
+        enter ! C Λ code.function (sliceVal (b, o) n ∷ mt ∷ []) _ $
         alloc1 ! (λ l₀. alloc1 ! (λ l₁. alloc1 ! (λ l₂. alloc1 ! (λ l₃. alloc1 ! (λ l₄. alloc1 ! (λ l₅. alloc0 ! $ params1 ! $
-        pass1 ! (init ! 8 refl (tt, (tt, (record { fits = gn .0 }, tt)))) $ pass1 ! (init ! 6 refl (LL.lawful O.the-type O′.the-laws 𝓤 H A W .typed t _ gt .0)) $ pass0 ! $
-        assigns ! (of-opd ! (load ! (from ! (fld ! refl (stop !))) (look-in ! 8 (sub ! 1 refl (whole !))))) (from ! (stop !)) (init ! 4 refl (tt, record { fits = gn .0 })) $
+        pass1 ! (init ! 8 refl (tt, (tt, (record { fits = gn .0 }, tt)))) $
+        pass1 ! (init ! 6 refl (LL.lawful O.the-type O′.the-laws 𝓤 H A W .typed t _ gt .0)) $ pass0 ! $
+        assigns ! (of-opd ! (load ! (from ! (fld ! refl (stop !))) (look-in ! 8 (sub ! 1 refl (whole !))))) (from ! (stop !))
+        (init ! 4 refl (tt, record { fits = gn .0 })) $
         -- toward
         use0 W (raw (TowardC 𝓤 H A mem run .pre to-toward)) (asks-toward (gn .0) gt) $
-        calls-at ! fm (TowardC 𝓤 H A mem run) known-toward to-toward (and-then ! (load ! (from ! (stop !)) (look ! 7 refl)) (and-then ! (load ! (from ! (stop !)) (look ! 5 refl)) (no-more !))) (λ u₁.
+        calls-at ! fm (TowardC 𝓤 H A mem run) known-toward to-toward
+        (and-then ! (load ! (from ! (stop !)) (look ! 7 refl)) (and-then ! (load ! (from ! (stop !)) (look ! 5 refl)) (no-more !))) (λ u₁.
         told-plain toward.ended tt (t, (n, tt)) (Begun t n) u₁ ! tt (λ r₁ e₁ g₁.
         land ! (from ! (stop !)) (init ! 1 refl (LL.lawful N.the-type N′.the-laws 𝓤 H A W .typed r₁ _ g₁ .0)) $ drop ! $
         -- [_5; …; _4; …; _3; …; _2; …; _1; …; _0; …; the token; what the parameters own]: what list owns is had twice
         move ! (13 ∷ []) $ fsplit ! $ use1 W (‵ Own ⊛ ‵ Own) (shr-slice-copy 𝓤 H A W (named 0) κ T.the-row .twice list (sliceVal (b, o) n ∷ [])) $ split ! $
-        nothing ! $ owned ! N.the-row (Is N.the-row) (LL.makes N.the-type N′.the-plain 𝓤 H A) r₁ _ g₁ $ fjoin ! $ move ! (1 ∷ 0 ∷ []) $ fjoin ! $ move ! (15 ∷ 0 ∷ []) $
+        nothing ! $ owned ! N.the-row (Is N.the-row) (LL.makes N.the-type N′.the-plain 𝓤 H A) r₁ _ g₁ $ fjoin ! $ move ! (1 ∷ 0 ∷ []) $ fjoin ! $
+        move ! (15 ∷ 0 ∷ []) $
         -- scan
         use2 W (raw (ScanC 𝓤 H A mem run .pre (to-scan r₁ u₁))) (asks-scan r₁ u₁) $
-        calls-at ! fm (ScanC 𝓤 H A mem run) known-scan (to-scan r₁ u₁) (and-then ! (load ! (from ! (stop !)) (look ! 11 refl)) (and-then ! (load ! (from ! (stop !)) (look ! 3 refl)) (no-more !))) (λ u₂.
+        calls-at ! fm (ScanC 𝓤 H A mem run) known-scan (to-scan r₁ u₁)
+        (and-then ! (load ! (from ! (stop !)) (look ! 11 refl)) (and-then ! (load ! (from ! (stop !)) (look ! 3 refl)) (no-more !))) (λ u₂.
         told scan.ended (κ, tt) (list, (r₁, tt)) (Scanned ys r₁ n) u₂ ! tt (‵ (flft κ q) ⊛ ‵ ftrue) (λ r₂ e₂ g₂.
         land ! (from ! (stop !)) (init ! 6 refl (LL.lawful N.the-type N′.the-laws 𝓤 H A W .typed r₂ _ g₂ .0)) $ drop ! $
         -- chosen
         use0 W (raw (ChosenC 𝓤 H A mem run .pre (to-chosen r₂ u₂))) (asks-chosen r₂ u₂ (gn .0) g₂) $
-        calls-at ! fm (ChosenC 𝓤 H A mem run) known-chosen (to-chosen r₂ u₂) (and-then ! (load ! (from ! (stop !)) (look ! 8 refl)) (and-then ! (load ! (from ! (stop !)) (look ! 6 refl)) (no-more !))) (λ u₃.
+        calls-at ! fm (ChosenC 𝓤 H A mem run) known-chosen (to-chosen r₂ u₂)
+        (and-then ! (load ! (from ! (stop !)) (look ! 8 refl)) (and-then ! (load ! (from ! (stop !)) (look ! 6 refl)) (no-more !))) (λ u₃.
         told-plain chosen.ended tt (n, (r₂, tt)) (Chose n r₂) u₃ ! tt (λ r₃ e₃ g₃.
         -- [the result; the token; what list owns; target's; _5; …; _4; …; _3; …; _2; …; _1; …; room for _0; …]
         land ! (from ! (stop !)) (init ! 14 refl (EL.lawful R.the-type R′.the-laws 𝓤 H A W tt .typed r₃ _ g₃ .0)) $
         returns ! (look ! 14 refl) $ forget ! 4 refl $ forget ! 6 refl $ forget ! 8 refl $ forget ! 10 refl $ forget ! 12 refl $ forget ! 14 refl $
-        move ! (14 ∷ 15 ∷ []) $ free1 ! $ move ! (12 ∷ 13 ∷ []) $ free1 ! $ move ! (10 ∷ 11 ∷ []) $ free1 ! $ move ! (8 ∷ 9 ∷ []) $ free1 ! $ move ! (6 ∷ 7 ∷ []) $ free1 ! $ move ! (4 ∷ 5 ∷ []) $ free1 ! $ free0 ! $
+        move ! (14 ∷ 15 ∷ []) $ free1 ! $ move ! (12 ∷ 13 ∷ []) $ free1 ! $ move ! (10 ∷ 11 ∷ []) $ free1 ! $ move ! (8 ∷ 9 ∷ []) $ free1 ! $
+        move ! (6 ∷ 7 ∷ []) $ free1 ! $ move ! (4 ∷ 5 ∷ []) $ free1 ! $ free0 ! $
         by ! (exits r₃ u₃ (e₃ ys t refl (e₁ .0) (e₂ (toOklab t) n 1 (e₁ .1 ys))))))))))))))))
 
 module _ {M : Type 1} (𝓤 : URA M) (H : Heap 𝓤) (A : Atoms 𝓤) (W : Given 𝓤 H A) (mem : Memory → SProp 𝓤) (run : Routine → Fun 𝓤) where
-  nearest-walks : (C : Calls 𝓤 H) (Λ : Loops 𝓤 H) → FmC 𝓤 H (W .laws) C → Triple 𝓤 (C #toward) (TowardC 𝓤 H A mem run) → Triple 𝓤 (C #scan) (ScanC 𝓤 H A mem run) → Triple 𝓤 (C #chosen) (ChosenC 𝓤 H A mem run)
+  nearest-walks : (C : Calls 𝓤 H) (Λ : Loops 𝓤 H) → FmC 𝓤 H (W .laws) C → Triple 𝓤 (C #toward) (TowardC 𝓤 H A mem run)
+      → Triple 𝓤 (C #scan) (ScanC 𝓤 H A mem run) → Triple 𝓤 (C #chosen) (ChosenC 𝓤 H A mem run)
       → Walks 𝓤 H A f.ended stayed (WpFn 𝓤 H C Λ code.function) (f.clauses 𝓤 H A mem run)
-  nearest-walks C Λ fm k₁ k₂ k₃ = walked 𝓤 H A f.ended stayed (f.clauses 𝓤 H A mem run) (WpFn 𝓤 H C Λ code.function) (λ κs. (slice-vals, (LL.vals O.the-type O′.the-laws, tt))) (λ κs. (shr-slice-tells (named 0) (κs .0) T.the-row, (LL.tells O.the-type O′.the-laws, tt)))
-      (λ κs qs bounds a g are. via 𝓤 _ (fst∗ 𝓤 _ (emp 𝓤)) (walk 𝓤 H A W mem run (κs .0) (qs .0) (a .0 .ptr .0) (a .0 .ptr .1) (a .0 .name) (a .0 .now) (a .1 .0) C Λ fm k₁ k₂ k₃ (are .0 .0 .1) (are .1 .0)))
+  nearest-walks C Λ fm k₁ k₂ k₃ =
+      walked 𝓤 H A f.ended stayed (f.clauses 𝓤 H A mem run) (WpFn 𝓤 H C Λ code.function) (λ κs. (slice-vals, (LL.vals O.the-type O′.the-laws, tt)))
+      (λ κs. (shr-slice-tells (named 0) (κs .0) T.the-row, (LL.tells O.the-type O′.the-laws, tt)))
+      (λ κs qs bounds a g are. via 𝓤 _ (fst∗ 𝓤 _ (emp 𝓤)) (walk 𝓤 H A W mem run (κs .0) (qs .0) (a .0 .ptr .0) (a .0 .ptr .1) (a .0 .name) (a .0 .now)
+      (a .1 .0) C Λ fm k₁ k₂ k₃ (are .0 .0 .1) (are .1 .0)))
 
 nearest-meets : {M : Type 1} (𝓤 : URA M) (H : Heap 𝓤) (A : Atoms 𝓤) (W : Given 𝓤 H A) (mem : Memory → SProp 𝓤) (run : Routine → Fun 𝓤) (𝓣 : Tables 𝓤 H)
     → Triple 𝓤 (𝓣 .C #toward) (TowardC 𝓤 H A mem run) → Triple 𝓤 (𝓣 .C #scan) (ScanC 𝓤 H A mem run) → Triple 𝓤 (𝓣 .C #chosen) (ChosenC 𝓤 H A mem run)
     → Meets 𝓤 H A f.signature (WpFn 𝓤 H (𝓣 .C) (𝓣 .Λ) code.function) (f.spec 𝓤 H A mem run)
-nearest-meets 𝓤 H A W mem run 𝓣 k₁ k₂ k₃ = walk-meets 𝓤 H A f.ended stayed W (goes-none-slice 𝓤 H A W 1 (0 ∷ []) tt (plain (λ _. T.the-row)) yes, (goes-none 𝓤 H A W 1 (λ _. O.the-row) yes (λ κs x f. refl), tt)) (f.clauses 𝓤 H A mem run) (WpFn 𝓤 H (𝓣 .C) (𝓣 .Λ) code.function) (WpFn-mono 𝓤 H (W .laws) 𝓣 code.function)
+nearest-meets 𝓤 H A W mem run 𝓣 k₁ k₂ k₃ =
+    walk-meets 𝓤 H A f.ended stayed W (
+      goes-none-slice 𝓤 H A W 1 (0 ∷ []) tt (plain (λ _. T.the-row)) yes,
+      (goes-none 𝓤 H A W 1 (λ _. O.the-row) yes (λ κs x f. refl), tt),
+    ) (f.clauses 𝓤 H A mem run) (WpFn 𝓤 H (𝓣 .C) (𝓣 .Λ) code.function)
+    (WpFn-mono 𝓤 H (W .laws) 𝓣 code.function)
     (nearest-walks 𝓤 H A W mem run (𝓣 .C) (𝓣 .Λ) (fmOf 𝓤 H (W .laws) 𝓣) k₁ k₂ k₃)
 
 pub nearest-spec : {M : Type 1} → stated.statement M

@@ -1,7 +1,7 @@
 -- `records::nearest_two` meets its contract: the walk of a call that answers from the short list, by `two_of`. Assumes nothing.
 use denote.Enum.Laws as EL
 use contract.Running.{givenOf}
-use Rattle.records.specs.Answers.{nearestTwoRecords}
+use Rattle.records.specs.Answers.{NearestTwoRecords}
 use Rattle.records.proofs.FoundRecords as R
 use Rattle.records.proofs.FoundRecords.Laws as R′
 use Rattle.records.proofs.ShortWalk.{met}
@@ -14,5 +14,5 @@ use Rattle.records.proofs.nearest_two.Code as code
 pub nearest-two-spec : {M : Type 1} → statement M
 unfolding code.routine
 nearest-two-spec 𝓤 H 𝓜 𝓖 𝓡 =
-    met R.the-row nearestTwoRecords two-of.name 𝓤 H 𝓜 𝓖 𝓡 (λ r v g. EL.lawful R.the-type R′.the-laws 𝓤 H (𝓖 .A) (givenOf 𝓤 H 𝓜 𝓖) tt .typed r _ g .0)
+    met R.the-row NearestTwoRecords two-of.name 𝓤 H 𝓜 𝓖 𝓡 (λ r v g. EL.lawful R.the-type R′.the-laws 𝓤 H (𝓖 .A) (givenOf 𝓤 H 𝓜 𝓖) tt .typed r _ g .0)
     code.env name two-of.routine (code.unfolded 𝓤 H 𝓜 𝓡) code.calls-records·shortened code.calls-records·shorts·two-of (two-of-thm.met 𝓤 H 𝓜 𝓖 𝓡)

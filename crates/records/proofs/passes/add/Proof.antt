@@ -17,8 +17,11 @@ settle-requires c κs = search needs
 returns : tie.Need-returns
 returns c =
     let w = c .before .before .before .before .before .clamp-width in
-    let a = c .before .before .before .before .before .before .args in
-    (record { target = refl; skip = refl; width = refl; ranged = refl }, λ at f n k u e h. added-more at f n k (a .s) (a .x) u e h (w .result) (w .ensures) (c .settle .result) (c .before .before .if1 .taken) (c .settle .ensures))
+    let a = c .before .before .before .before .before .before .args in (
+      record { target = refl; skip = refl; width = refl; ranged = refl },
+      λ at f n k u e h. added-more at f n k (a .s) (a .x) u e h (w .result) (w .ensures)
+          (c .settle .result) (c .before .before .if1 .taken) (c .settle .ensures),
+    )
 
 sub-last : tie.Need-sub-last
 sub-last c = search needs
@@ -35,14 +38,20 @@ settle-requires-2 c κs = search needs
 returns-2 : tie.Need-returns-2
 returns-2 c =
     let w = c .before .before .before .before .before .before .clamp-width in
-    let a = c .before .before .before .before .before .before .before .args in
-    (record { target = refl; skip = refl; width = refl; ranged = refl }, λ at f n k u e h. added-full at f n k (a .s) (a .x) u e h (w .result) (w .ensures) (c .settle2 .result) (c .before .before .before .if1 .left) (c .before .if2 .taken) (c .settle2 .ensures))
+    let a = c .before .before .before .before .before .before .before .args in (
+      record { target = refl; skip = refl; width = refl; ranged = refl },
+      λ at f n k u e h. added-full at f n k (a .s) (a .x) u e h (w .result) (w .ensures)
+          (c .settle2 .result) (c .before .before .before .if1 .left) (c .before .if2 .taken) (c .settle2 .ensures),
+    )
 
 returns-3 : tie.Need-returns-3
 returns-3 c =
     let w = c .before .before .before .before .before .clamp-width in
-    let a = c .before .before .before .before .before .before .args in
-    (record { target = refl; skip = refl; width = refl; ranged = refl }, λ at f n k u e h. added-past at f n k (a .s) (a .x) u e h (w .result) (w .ensures) (c .before .before .if1 .left) (c .if2 .left))
+    let a = c .before .before .before .before .before .before .args in (
+      record { target = refl; skip = refl; width = refl; ranged = refl },
+      λ at f n k u e h. added-past at f n k (a .s) (a .x) u e h (w .result) (w .ensures)
+          (c .before .before .if1 .left) (c .if2 .left),
+    )
 
 pub add-spec : {M : Type 1} → statement M
 add-spec =

@@ -24,7 +24,8 @@ returns-2 c list o a w e P =
     let s = c .before .before .before .before .before .before .before .before .args in
     let t = c .before .before .before .before .before .all-in-range in
     let d = c .before .sqdist in
-    passed-added list o a w (s .k) (s .s) (s .c) e P (t .result) (t .ensures) (c .before .before .if1 .left) (d .result) (d .ensures) (c .add .result) (c .add .ensures .0) (c .add .ensures .1)
+    passed-added list o a w (s .k) (s .s) (s .c) e P (t .result) (t .ensures) (c .before .before .if1 .left) (d .result) (d .ensures) (c .add .result)
+    (c .add .ensures .0) (c .add .ensures .1)
 
 pub step-spec : {M : Type 1} → statement M
 step-spec =

@@ -20,8 +20,10 @@ begun-requires c κs = search needs
 returns : tie.Need-returns
 returns c =
     let k : NormalizedColor = c .before .before .args .color in
-    let o = c .before .to-oklab in
-    (range-all-in (toOklab k) (ranged k (omega arith) (omega arith) (omega arith)), λ list. subst (λ (x : Oklab). Passed list x (c .before .before .args .len) 1 0 (c .begun .result)) (o .ensures) (c .begun .ensures list))
+    let o = c .before .to-oklab in (
+      range-all-in (toOklab k) (ranged k (omega arith) (omega arith) (omega arith)),
+      λ list. subst (λ (x : Oklab). Passed list x (c .before .before .args .len) 1 0 (c .begun .result)) (o .ensures) (c .begun .ensures list),
+    )
 
 pub toward-spec : {M : Type 1} → statement M
 toward-spec = tie.close (tie.spec to-oklab-requires begun-requires returns)

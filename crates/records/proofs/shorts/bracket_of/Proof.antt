@@ -1,15 +1,11 @@
 -- `shorts::bracket_of` meets its contract: the refusal, or the flat lookup over the short list. Assumes nothing.
-use Rattle.lookup.proofs.AnswerLaws.{refused}
-use Rattle.records.specs.Answers.{recordsBracket}
-use Rattle.lookup.specs.declared.FoundBracket.the-variants.{Refused}
-use Rattle.records.proofs.AnswerLaws.{fits, fronts, bracket-from}
+use Rattle.records.proofs.AnswerLaws.{bracket-refused, fits, fronts, bracket-from}
 use borrow.Author.Needs.{needs}
 use Rattle.records.proofs.shorts.bracket_of.Statement.{statement}
 use Rattle.records.proofs.shorts.bracket_of.Tie as tie
 
 returns : tie.Need-returns
-unfolding recordsBracket
-returns c list S = refused Refused _ _ _ (S .number) (c .if1 .taken)
+returns c list S = bracket-refused list _ (S .number) (c .if1 .taken) _
 
 mul-bytes : tie.Need-mul-bytes
 mul-bytes c = search needs

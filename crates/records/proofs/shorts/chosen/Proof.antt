@@ -1,5 +1,5 @@
 -- `shorts::chosen` meets its contract: the number of the list, or what the pass has kept first. Assumes nothing.
-use Rattle.records.proofs.AnswerLaws.{nearest-refused, nearest-granted}
+use Rattle.records.proofs.AnswerLaws.{nearest-unmet, nearest-granted}
 use borrow.Author.Needs.{needs}
 use Rattle.records.proofs.shorts.chosen.Statement.{statement}
 use Rattle.records.proofs.shorts.chosen.Tie as tie
@@ -10,7 +10,7 @@ refusal-requires c κs = search needs
 returns : tie.Need-returns
 returns c list color e O P =
     let n = c .before .refusal in
-    nearest-refused list color (c .before .before .args .len) (c .before .before .args .near) e P (n .result) (n .ensures) (c .if1 .taken)
+    nearest-unmet list color (c .before .before .args .len) (c .before .before .args .near) e P (n .result) (n .ensures) (c .if1 .taken)
 
 array-copy-out-a : tie.Need-array-copy-out-a
 array-copy-out-a c = search needs

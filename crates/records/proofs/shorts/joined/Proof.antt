@@ -32,7 +32,8 @@ returns c =
     let t = c .before .before .before .before .before .before .before .total-of in
     let l = c .before .before .before .lay in (
       record { few = t .ensures .0; reduced = l .kept .1 .1 .1 .0; normalized = l .kept .1 .1 .1 .1 .0; oklab = l .kept .1 .1 .1 .1 .1 .0 },
-      λ list color width e O P Q. joined-is list color width (a .len) (a .near) (a .others) e O P Q (n .result) (n .ensures) (t .result) (t .ensures .1) (l .ensures),
+      λ list color width e O P Q. joined-is list color width (a .len) (a .near) (a .others) e O P Q (n .result) (n .ensures) (t .result) (t .ensures .1)
+          (l .ensures),
     )
 
 pub joined-spec : {M : Type 1} → statement M

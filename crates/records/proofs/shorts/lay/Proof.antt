@@ -9,7 +9,8 @@ use Rattle.records.proofs.shorts.lay.Statement.{statement}
 use Rattle.records.proofs.shorts.lay.Tie as tie
 
 abbrev Inv-loop : tie.InvT-loop
-Inv-loop first kept total reduced₀ normalized₀ oklab₀ i₀ reduced normalized oklab i = (i ≤ total) × Laying (inLine first kept) reduced₀ normalized₀ oklab₀ reduced normalized oklab i
+Inv-loop first kept total reduced₀ normalized₀ oklab₀ i₀ reduced normalized oklab i =
+    (i ≤ total) × Laying (inLine first kept) reduced₀ normalized₀ oklab₀ reduced normalized oklab i
 
 abbrev μ-loop : tie.MeasureT-loop
 μ-loop first kept total reduced₀ normalized₀ oklab₀ i₀ reduced normalized oklab i = total - i
@@ -28,7 +29,11 @@ put-record-requires c κs =
     (omega (arith, l .reduced .long, p .0, p .1, i), omega (arith, l .normalized .long, p .0, p .2, i), omega (arith, l .oklab .long, p .0, p .3, i))
 
 add-i : tie.Need-add-i Inv-loop μ-loop
-add-i c = omega (arith, c .before .before .before .before .before .before .before .before .before .before .before .loop-test .taken, c .before .before .before .before .before .before .before .before .before .before .before .before .before .before .before .before .pre .0)
+add-i c = omega (
+  arith,
+  c .before .before .before .before .before .before .before .before .before .before .before .loop-test .taken,
+  c .before .before .before .before .before .before .before .before .before .before .before .before .before .before .before .before .pre .0,
+)
 
 loop-less : tie.Need-loop-less Inv-loop μ-loop
 loop-less c = omega arith
@@ -40,8 +45,11 @@ loop-again c =
     let p = s .pre in
     let i = c .before .before .before .before .before .before .before .before .before .before .before .loop-test .taken in
     let n = c .before .before .before .before .before .before .before .nth in
-    let put = c .before .before .before .before .before .before .put-record in
-    (omega (arith, i), lay-more (l .inv .1) (n .result) (n .ensures) (omega (arith, p .0, p .1, i)) (omega (arith, p .0, p .2, i)) (omega (arith, p .0, p .3, i)) (put .ensures .0) (put .ensures .1) (put .ensures .2))
+    let put = c .before .before .before .before .before .before .put-record in (
+      omega (arith, i),
+      lay-more (l .inv .1) (n .result) (n .ensures) (omega (arith, p .0, p .1, i)) (omega (arith, p .0, p .2, i))
+          (omega (arith, p .0, p .3, i)) (put .ensures .0) (put .ensures .1) (put .ensures .2),
+    )
 
 same-length : tie.Need-same-length Inv-loop μ-loop
 same-length c = c .before .loop .inv .1 .reduced .long
@@ -58,7 +66,8 @@ returns c =
     let s = c .before .before .before .before .before in
     let a = s .args in
     let e : l .i ≡ a .total = omega (arith, l .inv .0, c .loop-test .left) in
-    subst (λ (n : ℕ). LaidIn (take n (inLine (a .first) (a .kept))) n (l .reduced) (l .normalized) (l .oklab)) e (laid-in (l .inv .1) (omega (arith, line-long (a .first) (a .kept) (s .good .1 .0 .1 .0 .1), e, s .pre .0)))
+    subst (λ (n : ℕ). LaidIn (take n (inLine (a .first) (a .kept))) n (l .reduced) (l .normalized) (l .oklab)) e
+    (laid-in (l .inv .1) (omega (arith, line-long (a .first) (a .kept) (s .good .1 .0 .1 .0 .1), e, s .pre .0)))
 
 pub lay-spec : {M : Type 1} → statement M
 lay-spec =

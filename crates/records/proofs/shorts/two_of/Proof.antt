@@ -1,15 +1,11 @@
 -- `shorts::two_of` meets its contract: the refusal, or the flat lookup over the short list, and the records at its positions. Assumes nothing.
-use Rattle.lookup.proofs.AnswerLaws.{refused}
-use Rattle.records.specs.Answers.{nearestTwoRecords}
-use Rattle.records.specs.declared.FoundRecords.the-variants.{Refused}
-use Rattle.records.proofs.AnswerLaws.{fits, fronts, two-few, two-found, two-not-found}
+use Rattle.records.proofs.AnswerLaws.{two-refused, fits, fronts, two-few, two-found, two-not-found}
 use borrow.Author.Needs.{needs}
 use Rattle.records.proofs.shorts.two_of.Statement.{statement}
 use Rattle.records.proofs.shorts.two_of.Tie as tie
 
 returns : tie.Need-returns
-unfolding nearestTwoRecords
-returns c list S = refused Refused _ _ _ (S .number) (c .if1 .taken)
+returns c list S = two-refused list _ (S .number) (c .if1 .taken) _
 
 mul-bytes : tie.Need-mul-bytes
 mul-bytes c = search needs
@@ -54,12 +50,14 @@ enum-known-n c = search needs
 returns-2 : tie.Need-returns-2
 returns-2 c list S =
     let f = c .before .before .before .before in
-    two-found S (f .before .before .before .before .before .before .before .before .before .if1 .left) (f .flat-nearest-two .ensures) (c .before .before .two .given .1) (c .records-in .ensures)
+    two-found S (f .before .before .before .before .before .before .before .before .before .if1 .left) (f .flat-nearest-two .ensures)
+    (c .before .before .two .given .1) (c .records-in .ensures)
 
 returns-3 : tie.Need-returns-3
 returns-3 c list S =
     let f = c .before .before .before in
-    two-not-found S (f .before .before .before .before .before .before .before .before .before .if1 .left) (f .flat-nearest-two .ensures) (c .before .n .given .1)
+    two-not-found S (f .before .before .before .before .before .before .before .before .before .if1 .left) (f .flat-nearest-two .ensures)
+    (c .before .n .given .1)
 
 pub two-of-spec : {M : Type 1} → statement M
 two-of-spec =

@@ -10,7 +10,8 @@ use Rattle.shortlist.proofs.near.leader_of.Statement.{statement}
 use Rattle.shortlist.proofs.near.leader_of.Tie as tie
 
 abbrev Inv-loop : tie.InvT-loop
-Inv-loop oklab count o seed reach leader₀ k₀ leader k = (k ≤ count) × Onward (distances o (oklabAt oklab)) reach 0 k leader₀ leader × (reach ≡ distances o (oklabAt oklab) seed)
+Inv-loop oklab count o seed reach leader₀ k₀ leader k =
+    (k ≤ count) × Onward (distances o (oklabAt oklab)) reach 0 k leader₀ leader × (reach ≡ distances o (oklabAt oklab) seed)
 
 abbrev μ-loop : tie.MeasureT-loop
 μ-loop oklab count o seed reach leader₀ k₀ leader k = count - k
@@ -47,7 +48,8 @@ returns c =
     let r = c .before .before .before .distance-to .result in
     let a = c .before .before .before .before .before .args in
     let d = distances (a .o) (oklabAt (a .oklab .now)) in
-    subst (λ (x : Float). Onward d x 0 (a .count) (a .start) (c .leader-by-one .result)) (l .inv .2) (λ n h u s. c .leader-by-one .ensures r n h u (l .inv .1 n (omega arith) u s))
+    subst (λ (x : Float). Onward d x 0 (a .count) (a .start) (c .leader-by-one .result)) (l .inv .2)
+    (λ n h u s. c .leader-by-one .ensures r n h u (l .inv .1 n (omega arith) u s))
 
 pub leader-of-spec : {M : Type 1} → statement M
 leader-of-spec =

@@ -20,7 +20,8 @@ leader-by-one-requires c κs = search needs
 
 -- a leader of all entries is the nearest, where one of them is within reach
 nearest : (s : tie.Start) (d : Float) → d ≡ distances (s .args .o) (oklabAt (s .args .oklab .now)) 0 → (seed : ℕ) → seed < s .args .count → (leader : Leader)
-    → Onward (distances (s .args .o) (oklabAt (s .args .oklab .now))) (distances (s .args .o) (oklabAt (s .args .oklab .now)) seed) 0 (s .args .count) (record { position = 0; distance = d }) leader
+    → Onward (distances (s .args .o) (oklabAt (s .args .oklab .now))) (distances (s .args .o) (oklabAt (s .args .oklab .now)) seed) 0 (s .args .count)
+    (record { position = 0; distance = d }) leader
     → leader .position ≡ nearestIn (oklabAt (s .args .oklab .now)) (s .args .count) (s .args .o)
 nearest s d e seed h leader on =
     let f = distances (s .args .o) (oklabAt (s .args .oklab .now)) in

@@ -1,8 +1,8 @@
--- `checks::count_fits` meets its contract: its tests are the definition's. Assumes nothing.
+-- `count_fits` meets its contract: its tests are the definition's. Assumes nothing.
 use mathlib.Core.Path.{refl}
 use Rattle.lookup.specs.Lists.{countFits}
-use Rattle.lookup.proofs.checks.count_fits.Statement.{statement}
-use Rattle.lookup.proofs.checks.count_fits.Tie as tie
+use Rattle.lookup.proofs.count_fits.Statement.{statement}
+use Rattle.lookup.proofs.count_fits.Tie as tie
 
 returns : tie.Need-returns
 unfolding countFits

@@ -1,7 +1,7 @@
--- `near::distance_to` meets its contract: the distance to the entry that is read. Assumes nothing.
+-- `away::distance_to` meets its contract: the distance to the entry that is read. Assumes nothing.
 use borrow.Author.Needs.{needs}
-use Rattle.shortlist.proofs.near.distance_to.Statement.{statement}
-use Rattle.shortlist.proofs.near.distance_to.Tie as tie
+use Rattle.shortlist.proofs.away.distance_to.Statement.{statement}
+use Rattle.shortlist.proofs.away.distance_to.Tie as tie
 
 oklab-at-requires : tie.Need-oklab-at-requires
 oklab-at-requires c κs = search needs

@@ -1,9 +1,9 @@
--- `near::eight_farther` meets its contract: by what its eight calls ensure. Assumes nothing.
+-- `away::eight_farther` meets its contract: by what its eight calls ensure. Assumes nothing.
 use native.Mathlib.Nat.{add-zero}
 use Rattle.shortlist.specs.Nearest.{farther}
 use borrow.Author.Needs.{needs}
-use Rattle.shortlist.proofs.near.eight_farther.Statement.{statement}
-use Rattle.shortlist.proofs.near.eight_farther.Tie as tie
+use Rattle.shortlist.proofs.away.eight_farther.Statement.{statement}
+use Rattle.shortlist.proofs.away.eight_farther.Tie as tie
 
 distance-to-requires : tie.Need-distance-to-requires
 distance-to-requires c κs = search needs
