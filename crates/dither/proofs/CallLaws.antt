@@ -20,13 +20,13 @@ use Rattle.dither.specs.Steps.{Completes}
 
 -- ---- the two ends of a picture whose candidates have places
 module _ (q : Commission) {out₀ : List ℕ} {cells₀ : List Float} {count : ℕ} (counted : count ≡ length (candidateList q)) {out : List ℕ} {cells : List Float}
-    where
-  pub completed-over : (tile : ℕ) → (overBudget q ≡ true) × (tile ≡ tileOver q) → out ≡ replicate (length out₀) 0
-      → cells ≡ replicate (length cells₀) (ofBits binary32 0) → Completes q out₀ cells₀ (Over tile count) out cells
-  completed-over tile v o c = record { answer = rw (v .0) (λ t. Over (v .1 t) (counted t)); picture = rw (v .0) o; cell-buffer = rw (v .0) c }
+  where
+    pub completed-over : (tile : ℕ) → (overBudget q ≡ true) × (tile ≡ tileOver q) → out ≡ replicate (length out₀) 0
+        → cells ≡ replicate (length cells₀) (ofBits binary32 0) → Completes q out₀ cells₀ (Over tile count) out cells
+    completed-over tile v o c = record { answer = rw (v .0) (λ t. Over (v .1 t) (counted t)); picture = rw (v .0) o; cell-buffer = rw (v .0) c }
 
-  pub completed : overBudget q ≡ false → out ≡ pixelsOf q → cells ≡ cellsAfter (dithering q) cells₀ → Completes q out₀ cells₀ (Count count) out cells
-  completed v o c = record { answer = rw v (ap Count counted); picture = rw v o; cell-buffer = rw v c }
+    pub completed : overBudget q ≡ false → out ≡ pixelsOf q → cells ≡ cellsAfter (dithering q) cells₀ → Completes q out₀ cells₀ (Count count) out cells
+    completed v o c = record { answer = rw v (ap Count counted); picture = rw v o; cell-buffer = rw v c }
 
 -- ---- the answers, by their number
 module _ (q : Commission) (was : Buffers) where
@@ -91,7 +91,7 @@ module _ (q : Commission) (was : Buffers) where
             → cells ≡ cond b (replicate (length (was .cells)) (ofBits binary32 0)) (cellsAfter (dithering q) (was .cells))
             → DitheredToMode q was r (buffers places oklab out cells)
         go true b a x y =
-            let facts = (none .0, (none .1 .0, (none .1 .1 .0, (none .1 .1 .1 .0, (t, tt))))) in
-            call-is 8 (reply-at (before ++ seven ∷ []) eight [] facts b) (ap numberOf a) a p o x y
+            call-is 8 (reply-at (before ++ seven ∷ []) eight [] (none .0, (none .1 .0, (none .1 .1 .0, (none .1 .1 .1 .0, (t, tt))))) b) (ap numberOf a) a
+            p o x y
         go false b a x y =
             call-is 0 (reply-zero (replies q was) (none .0, (none .1 .0, (none .1 .1 .0, (none .1 .1 .1 .0, (t, (b, tt))))))) (ap numberOf a) a p o x y
