@@ -7,8 +7,7 @@ use Prim.Native.Nat.{ℕ, _+_, _<_}
 use native.Mathlib.Omega.{arith}
 use lib.Dec.{T, T-not}
 use Rattle.color.specs.Color.{sameReduced, reducedAt}
-use Rattle.picture.specs.Pixels.{reducedBy, isSeen, pixelAt, isOpaque}
-use Rattle.picture.proofs.Opaque.{opaque-is}
+use Rattle.picture.specs.Pixels.{isSeen}
 use Rattle.judging.specs.declared.Judged.{Judged}
 use Rattle.judging.specs.declared.Judged.the-variants.{Fits, Over}
 use Rattle.lists.specs.Different.{Many}
@@ -16,14 +15,14 @@ use Rattle.judging.specs.Tiles as judging
 use Rattle.judging.specs.Tiles.{countsIn, verdictOf, judgedOf, JudgedAs}
 use Rattle.judging.proofs.JudgedLaws as laws
 use Rattle.judging.proofs.JudgedLaws.{judged-is, judged-same}
-use Rattle.dither.specs.Mode.{Order, size, chosen, tiles, tileOver, overBudget}
+use Rattle.dither.specs.Mode.{Commission, size, reducedOf, chosen, tiles, tileOver, overBudget}
 
-module _ (q : Order) where
+module _ (q : Commission) where
   -- what judging answers of the chosen colours
   abbrev pub verdict : Judged
   verdict =
       let s = q .settings in
-      judgedOf (isOpaque (q .pixels)) (chosen q) (s .width) (s .height) (s .«tile_width») (s .«tile_height») (s .limit)
+      judgedOf (isSeen (reducedOf q)) (chosen q) (s .width) (s .height) (s .«tile_width») (s .«tile_height») (s .limit)
 
   verdict-is : verdict ≡ cond (overBudget q) (Over (tileOver q)) Fits
   unfolding judgedOf verdictOf overBudget tileOver
@@ -45,46 +44,44 @@ module _ (q : Order) where
         go true b f = absurd (let z : _≡_ {A = ℕ} 0 1 = cc in omega arith)
         go false b f = b
 
-  seen-is : (i : ℕ) → isSeen (reducedBy (q .reduction) (q .pixels)) i ≡ isOpaque (q .pixels) i
-  unfolding isSeen reducedBy pixelAt
-  seen-is i = sym (opaque-is (q .reduction) (q .pixels) i)
-
   -- the drawn bytes are judged as the choices are
   pub judged-bytes : (reduced : List ℕ) → ((i : ℕ) → i < size q → reducedAt reduced i ≡ chosen q i)
       → let s = q .settings in
-      judgedOf (isSeen (reducedBy (q .reduction) (q .pixels))) (reducedAt reduced) (s .width) (s .height) (s .«tile_width») (s .«tile_height») (s .limit)
-      ≡ verdict
-  judged-bytes reduced same =
-      let s = q .settings in
-      judged-same (s .width) (s .height) (s .«tile_width») (s .«tile_height») (λ i h. seen-is i) same (s .limit)
+      judgedOf (isSeen (reducedOf q)) (reducedAt reduced) (s .width) (s .height) (s .«tile_width») (s .«tile_height») (s .limit) ≡ verdict
+  judged-bytes reduced same = let s = q .settings in judged-same (s .width) (s .height) (s .«tile_width») (s .«tile_height») (λ i h. refl) same (s .limit)
 
   -- ---- what it says
   -- of tile t's non-transparent pixels, more different colours are chosen than the limit: so many and one more, no two the same
   abbrev pub Outnumbers : ℕ → Type 0
   Outnumbers t =
       let s = q .settings in
-      Many sameReduced (countsIn (isOpaque (q .pixels)) (s .width) (s .«tile_width») (s .«tile_height») t) (chosen q) (size q) (s .limit + 1)
+      Many sameReduced (countsIn (isSeen (reducedOf q)) (s .width) (s .«tile_width») (s .«tile_height») t) (chosen q) (size q) (s .limit + 1)
 
   abbrev isOver : ℕ → Bool
   isOver t =
       let s = q .settings in
-      judging.isOver (isOpaque (q .pixels)) (chosen q) (s .width) (s .height) (s .«tile_width») (s .«tile_height») (s .limit) t
+      judging.isOver (isSeen (reducedOf q)) (chosen q) (s .width) (s .height) (s .«tile_width») (s .«tile_height») (s .limit) t
 
   outnumbered : (t : ℕ) → T (isOver t) → Outnumbers t
-  outnumbered t o = let s = q .settings in laws.over-only (isOpaque (q .pixels)) (chosen q) (s .width) (s .height) (s .«tile_width») (s .«tile_height») (s .limit) t o
+  outnumbered t o =
+      let s = q .settings in
+      laws.over-only (isSeen (reducedOf q)) (chosen q) (s .width) (s .height) (s .«tile_width») (s .«tile_height») (s .limit) t o
 
   is-over : (t : ℕ) → Outnumbers t → T (isOver t)
-  is-over t m = let s = q .settings in laws.over-if (isOpaque (q .pixels)) (chosen q) (s .width) (s .height) (s .«tile_width») (s .«tile_height») (s .limit) t m
+  is-over t m =
+      let s = q .settings in
+      laws.over-if (isSeen (reducedOf q)) (chosen q) (s .width) (s .height) (s .«tile_width») (s .«tile_height») (s .limit) t m
 
   abbrev As : Judged → Type 0
   As v =
       let s = q .settings in
-      JudgedAs (isOpaque (q .pixels)) (chosen q) (s .width) (s .height) (s .«tile_width») (s .«tile_height») (s .limit) v
+      JudgedAs (isSeen (reducedOf q)) (chosen q) (s .width) (s .height) (s .«tile_width») (s .«tile_height») (s .limit) v
 
   said : (b : Bool) → overBudget q ≡ b → As (cond b (Over (tileOver q)) Fits)
   said b e =
       let s = q .settings in
-      subst As (verdict-is ∙ ap (λ (x : Bool). cond x (Over (tileOver q)) Fits) e) (judged-is (isOpaque (q .pixels)) (chosen q) (s .width) (s .height) (s .«tile_width») (s .«tile_height») (s .limit))
+      subst As (verdict-is ∙ ap (λ (x : Bool). cond x (Over (tileOver q)) Fits) e)
+      (judged-is (isSeen (reducedOf q)) (chosen q) (s .width) (s .height) (s .«tile_width») (s .«tile_height») (s .limit))
 
   -- the tile that is named is one of the picture's, is over its limit, and no earlier one is
   pub tile-first : overBudget q ≡ true → (tileOver q < tiles (q .settings)) × Outnumbers (tileOver q) × ((t : ℕ) → t < tileOver q → Outnumbers t → ⊥)

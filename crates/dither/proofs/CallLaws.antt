@@ -8,63 +8,65 @@ use native.Mathlib.Omega.{arith}
 use borrow.Author.Tests.{ne-eqb}
 use lib.ListN.{length, replicate}
 use lib.Ieee.{Float, ofBits, binary32}
-use Rattle.replies.specs.Replies as reply
-use Rattle.replies.specs.Replies.{_if_, firstReply, after, NoneApplies}
+use Rattle.replies.specs.Replies.{Reply, _if_, firstReply, after, NoneApplies}
 use Rattle.replies.proofs.ReplyLaws.{reply-zero, reply-none, reply-at, reply-front, reply-upto, after-refused}
 use Rattle.drawing.specs.Lent.{cellsAfter}
 use Rattle.candidates.specs.Rooms.{placesWith, oklabWith, tooMany}
 use Rattle.dither.specs.declared.Dithered.{Dithered}
 use Rattle.dither.specs.declared.Dithered.the-variants.{Count, Over, Refused}
-use Rattle.dither.specs.Mode.{Order, Buffers, buffers, candidateList, dithering, tileOver, overBudget, pixelsOf, lengthsOf, checks, replies, numberFor, numberOf, answerOf, leaves, outAfter, cellsLeft, placesAfter, oklabAfter, DitheredToMode}
+use Rattle.dither.specs.Mode.{Commission, Buffers, buffers, candidateList, dithering, tileOver, overBudget, pixelsOf, lengthsOf, checks, replies}
+use Rattle.dither.specs.Mode.{numberOf, answerOf, leaves, outAfter, cellsLeft, placesAfter, oklabAfter, DitheredToMode}
 use Rattle.dither.specs.Steps.{Completes}
 
 -- ---- the two ends of a picture whose candidates have places
-module _ (q : Order) {out₀ : List ℕ} {cells₀ : List Float} {count : ℕ} (counted : count ≡ length (candidateList q)) {out : List ℕ} {cells : List Float} where
-  pub completed-over : (tile : ℕ) → (overBudget q ≡ true) × (tile ≡ tileOver q) → out ≡ replicate (length out₀) 0 → cells ≡ replicate (length cells₀) (ofBits binary32 0)
-      → Completes q out₀ cells₀ (Over tile count) out cells
-  completed-over tile v o c = record { answer = rw (v .0) (λ t. Over (v .1 t) (counted t)); picture = rw (v .0) o; cell-buffer = rw (v .0) c }
+module _ (q : Commission) {out₀ : List ℕ} {cells₀ : List Float} {count : ℕ} (counted : count ≡ length (candidateList q)) {out : List ℕ} {cells : List Float}
+  where
+    pub completed-over : (tile : ℕ) → (overBudget q ≡ true) × (tile ≡ tileOver q) → out ≡ replicate (length out₀) 0
+        → cells ≡ replicate (length cells₀) (ofBits binary32 0) → Completes q out₀ cells₀ (Over tile count) out cells
+    completed-over tile v o c = record { answer = rw (v .0) (λ t. Over (v .1 t) (counted t)); picture = rw (v .0) o; cell-buffer = rw (v .0) c }
 
-  pub completed : overBudget q ≡ false → out ≡ pixelsOf q → cells ≡ cellsAfter (dithering q) cells₀ → Completes q out₀ cells₀ (Count count) out cells
-  completed v o c = record { answer = rw v (ap Count counted); picture = rw v o; cell-buffer = rw v c }
+    pub completed : overBudget q ≡ false → out ≡ pixelsOf q → cells ≡ cellsAfter (dithering q) cells₀ → Completes q out₀ cells₀ (Count count) out cells
+    completed v o c = record { answer = rw v (ap Count counted); picture = rw v o; cell-buffer = rw v c }
 
 -- ---- the answers, by their number
-module _ (q : Order) (was : Buffers) where
-  abbrev before : List reply.Reply
+module _ (q : Commission) (was : Buffers) where
+  abbrev before : List Reply
   before = checks (q .settings) (lengthsOf q was)
 
-  abbrev seven : reply.Reply
+  abbrev seven : Reply
   seven = 7 if tooMany (candidateList q) (was .places)
 
-  abbrev eight : reply.Reply
+  abbrev eight : Reply
   eight = 8 if overBudget q
 
   -- what is answered and left with number n
-  call-is : {r : Dithered} {places out : List ℕ} {oklab cells : List Float} (n : ℕ) → numberFor q was ≡ n → numberOf r ≡ n → r ≡ answerOf n q → places ≡ placesAfter n q (was .places)
-      → oklab ≡ oklabAfter n q (was .oklab) → out ≡ outAfter n q (was .out) → cells ≡ cellsLeft n q (was .cells) → DitheredToMode q was r (buffers places oklab out cells)
+  call-is : {r : Dithered} {places out : List ℕ} {oklab cells : List Float} (n : ℕ) → firstReply (replies q was) ≡ n → numberOf r ≡ n → r ≡ answerOf q n
+      → places ≡ placesAfter q (was .places) n → oklab ≡ oklabAfter q (was .oklab) n → out ≡ outAfter q (was .out) n → cells ≡ cellsLeft q (was .cells) n
+      → DitheredToMode q was r (buffers places oklab out cells)
   call-is n l number answer places oklab out cells = record {
-    number = number ∙ sym l;
-    answer = answer ∙ ap (λ (m : ℕ). answerOf m q) (sym l);
-    candidate-places = places ∙ ap (λ (m : ℕ). placesAfter m q (was .places)) (sym l);
-    candidate-oklab = oklab ∙ ap (λ (m : ℕ). oklabAfter m q (was .oklab)) (sym l);
-    picture = out ∙ ap (λ (m : ℕ). outAfter m q (was .out)) (sym l);
-    cell-buffer = cells ∙ ap (λ (m : ℕ). cellsLeft m q (was .cells)) (sym l);
+    answer = record { number = number ∙ sym l; answer = answer ∙ ap (answerOf q) (sym number) };
+    candidate-places = places ∙ ap (placesAfter q (was .places)) (sym number);
+    candidate-oklab = oklab ∙ ap (oklabAfter q (was .oklab)) (sym number);
+    picture = out ∙ ap (outAfter q (was .out)) (sym number);
+    cell-buffer = cells ∙ ap (cellsLeft q (was .cells)) (sym number);
   }
 
   -- a buffer is as it was after a number that is neither 0 nor 8
   unchanged : {A : Type 0} (n : ℕ) (result over held : A) → (n ≡ 0 → ⊥) → (n ≡ 8 → ⊥) → held ≡ leaves n result over held
   unchanged n result over held some ne = after-refused n result held some ∙ ap (λ (b : Bool). cond b over (after n result held)) (sym (ne-eqb n 8 ne))
 
-  refused-as : (n : ℕ) → (n ≡ 0 → ⊥) → (n ≡ 8 → ⊥) → Refused n ≡ answerOf n q
+  refused-as : (n : ℕ) → (n ≡ 0 → ⊥) → (n ≡ 8 → ⊥) → Refused n ≡ answerOf q n
   unfolding answerOf
   refused-as n some ne = rw (ne-eqb n 0 some, ne-eqb n 8 ne)
 
   pub call-refused : {n : ℕ} → n ≡ firstReply (checks (q .settings) (lengthsOf q was)) → (n ≡ 0 → ⊥) → DitheredToMode q was (Refused n) was
-  unfolding numberFor placesAfter oklabAfter outAfter cellsLeft
+  unfolding placesAfter oklabAfter outAfter cellsLeft
   call-refused {n} e some =
       let few = reply-upto 5 before tt in
       let not-seven : n ≡ 7 → ⊥ = λ z. omega (arith, few, e) in
       let not-eight : n ≡ 8 → ⊥ = λ z. omega (arith, few, e) in
-      call-is n (reply-front before (seven ∷ eight ∷ []) (λ z. some (e ∙ z)) ∙ sym e) refl (refused-as n some not-eight) (rw (ne-eqb n 7 not-seven) (unchanged n _ _ (was .places) some not-eight)) (unchanged n _ _ (was .oklab) some not-eight)
+      call-is n (reply-front before (seven ∷ eight ∷ []) (λ z. some (e ∙ z)) ∙ sym e) refl (refused-as n some not-eight)
+      (rw (ne-eqb n 7 not-seven) (unchanged n _ _ (was .places) some not-eight)) (unchanged n _ _ (was .oklab) some not-eight)
       (unchanged n _ _ (was .out) some not-eight) (unchanged n _ _ (was .cells) some not-eight)
 
   -- where no check refuses
@@ -72,17 +74,24 @@ module _ (q : Order) (was : Buffers) where
     none : NoneApplies before
     none = reply-none before tt free
 
-    pub call-full : {places : List ℕ} {oklab : List Float} → tooMany (candidateList q) (was .places) ≡ true → places ≡ replicate (length (was .places)) 0 → oklab ≡ was .oklab
+    pub call-full : {places : List ℕ} {oklab : List Float} → tooMany (candidateList q) (was .places) ≡ true
+        → places ≡ replicate (length (was .places)) 0 → oklab ≡ was .oklab
         → DitheredToMode q was (Refused 7) (buffers places oklab (was .out) (was .cells))
-    unfolding numberFor answerOf placesAfter oklabAfter outAfter cellsLeft
+    unfolding answerOf placesAfter oklabAfter outAfter cellsLeft
     call-full t p o = call-is 7 (reply-at before seven (eight ∷ []) none t) refl refl p o refl refl
 
-    pub call-completed : {r : Dithered} {places out : List ℕ} {oklab cells : List Float} → tooMany (candidateList q) (was .places) ≡ false → places ≡ placesWith (candidateList q) (was .places)
-        → oklab ≡ oklabWith (q .scale) (candidateList q) (was .oklab) → Completes q (was .out) (was .cells) r out cells → DitheredToMode q was r (buffers places oklab out cells)
-    unfolding numberFor answerOf placesAfter oklabAfter outAfter cellsLeft
+    pub call-completed : {r : Dithered} {places out : List ℕ} {oklab cells : List Float} → tooMany (candidateList q) (was .places) ≡ false
+        → places ≡ placesWith (candidateList q) (was .places) → oklab ≡ oklabWith (q .scale) (candidateList q) (was .oklab)
+        → Completes q (was .out) (was .cells) r out cells → DitheredToMode q was r (buffers places oklab out cells)
+    unfolding answerOf placesAfter oklabAfter outAfter cellsLeft
     call-completed {r} {places} {out} {oklab} {cells} t p o c = go (overBudget q) refl (c .answer) (c .picture) (c .cell-buffer)
       where
-        go : (b : Bool) → overBudget q ≡ b → r ≡ cond b (Over (tileOver q) (length (candidateList q))) (Count (length (candidateList q))) → out ≡ cond b (replicate (length (was .out)) 0) (pixelsOf q)
-            → cells ≡ cond b (replicate (length (was .cells)) (ofBits binary32 0)) (cellsAfter (dithering q) (was .cells)) → DitheredToMode q was r (buffers places oklab out cells)
-        go true b a x y = call-is 8 (reply-at (before ++ seven ∷ []) eight [] (none .0, (none .1 .0, (none .1 .1 .0, (none .1 .1 .1 .0, (t, tt))))) b) (ap numberOf a) a p o x y
-        go false b a x y = call-is 0 (reply-zero (replies q was) (none .0, (none .1 .0, (none .1 .1 .0, (none .1 .1 .1 .0, (t, (b, tt))))))) (ap numberOf a) a p o x y
+        go : (b : Bool) → overBudget q ≡ b → r ≡ cond b (Over (tileOver q) (length (candidateList q))) (Count (length (candidateList q)))
+            → out ≡ cond b (replicate (length (was .out)) 0) (pixelsOf q)
+            → cells ≡ cond b (replicate (length (was .cells)) (ofBits binary32 0)) (cellsAfter (dithering q) (was .cells))
+            → DitheredToMode q was r (buffers places oklab out cells)
+        go true b a x y =
+            call-is 8 (reply-at (before ++ seven ∷ []) eight [] (none .0, (none .1 .0, (none .1 .1 .0, (none .1 .1 .1 .0, (t, tt))))) b) (ap numberOf a) a
+            p o x y
+        go false b a x y =
+            call-is 0 (reply-zero (replies q was) (none .0, (none .1 .0, (none .1 .1 .0, (none .1 .1 .1 .0, (t, (b, tt))))))) (ap numberOf a) a p o x y

@@ -1,25 +1,24 @@
 -- The picture that is drawn over the candidates: what fits is ready to be drawn (`ready`), and over rooms that hold the candidates it is the
--- promised one (`same-picture`); it can be judged and finished (`judgeable`, `finishable`), and finished it is the promised pixels (`finished-all`).
--- Assumes nothing.
+-- promised one (`same-picture`); it can be judged and finished (`judgeable`, `finishable`). Assumes nothing.
 use mathlib.Core.Path.{_≡_, sym, _∙_, ap}
 use mathlib.Core.List.{List}
 use Prim.Native.Nat.{ℕ, _*_, _<_}
 use native.Mathlib.Nat.{le-of-eq}
 use lib.ListN.{length, getD, take}
 use lib.Ieee.{Float}
-use Rattle.lists.proofs.GatherLaws.{gather-same}
-use Rattle.color.specs.declared.ReducedColor.{ReducedColor}
-use Rattle.color.specs.Color.{reducedAt, bytesOf}
-use Rattle.picture.specs.Pixels.{isOpaque}
+use Rattle.color.specs.Color.{reducedAt}
 use Rattle.mixing.specs.Widths.{widthOf}
 use Rattle.drawing.specs.Lent.{Ready, drawingOf, reducedBytes}
+use Rattle.drawing.specs.Finished.{Finishable}
+use Rattle.drawing.proofs.CandidateLaws.{list-fit}
 use Rattle.drawing.proofs.OutputLaws.{bytes-length, bytes-at}
+use Rattle.candidates.specs.Rooms.{candidateAt}
 use Rattle.judging.specs.Tiles.{Judgeable}
-use Rattle.dither.specs.Mode.{Order, size, candidateList, dithererOf, lentOf, dithering, chosen, finished, pixelAt, pixelsOf}
-use Rattle.dither.specs.Steps.{Fitting, Roomed, Finishable, finishedBytes}
-use Rattle.dither.proofs.CandidateLaws.{bytes-long, candidates-ranged, some-candidate}
+use Rattle.dither.specs.Mode.{Commission, size, candidateList, dithererOf, lentOf, dithering, chosen}
+use Rattle.dither.specs.Steps.{Fitting, Roomed}
+use Rattle.dither.proofs.CandidateLaws.{bytes-long, some-candidate}
 
-module _ (q : Order) {places : List ℕ} {oklab : List Float} {count : ℕ} (r : Roomed q places oklab count) where
+module _ (q : Commission) {places : List ℕ} {oklab : List Float} {count : ℕ} (r : Roomed q places oklab count) where
   -- over the fronts of the rooms, with the width of the limit
   pub same-picture : (width : ℕ) → width ≡ widthOf (q .settings .shift) (q .settings .limit)
       → drawingOf (dithererOf (q .settings) width) (q .settings .zero) (lentOf q (take (4 * count) places) (take (3 * count) oklab) count) ≡ dithering q
@@ -29,7 +28,6 @@ module _ (q : Order) {places : List ℕ} {oklab : List Float} {count : ℕ} (r :
     pub ready : (width : ℕ) → ((k : ℕ) → getD (q .reduction) k 0 < 256) → ((k : ℕ) → getD (q .scale) k 0 < 256)
         → Ready (dithererOf (q .settings) width) (q .settings .zero) (lentOf q (take (4 * count) places) (take (3 * count) oklab) count)
     ready width reduces scales = record {
-      kind = f .kind;
       wide = f .wide;
       high = f .high;
       few = f .small;
@@ -39,11 +37,11 @@ module _ (q : Order) {places : List ℕ} {oklab : List Float} {count : ℕ} (r :
       scale = f .scale;
       pixels = f .pixels;
       colors = le-of-eq (sym (ap length (r .colors) ∙ bytes-long (candidateList q) ∙ ap (λ (n : ℕ). 4 * n) (sym (r .counted))));
-      ranged = rw (r .converted, r .counted) (candidates-ranged (q .scale) (candidateList q) scales);
+      ranged = rw (r .converted, r .counted) (list-fit (q .scale) (candidateAt (candidateList q)) (length (candidateList q)) scales);
       some = λ i h s. rw (r .counted) (some-candidate (q .settings .zero) (q .reduction) (q .pixels) (size q) reduces i h s);
     }
 
-module _ (q : Order) {out₀ : List ℕ} {cells₀ : List Float} (f : Fitting q out₀ cells₀) (reduced : List ℕ) (e : reduced ≡ reducedBytes (dithering q)) where
+module _ (q : Commission) {out₀ : List ℕ} {cells₀ : List Float} (f : Fitting q out₀ cells₀) (reduced : List ℕ) (e : reduced ≡ reducedBytes (dithering q)) where
   -- colour i of the drawn bytes is pixel i's choice
   pub at : (i : ℕ) → i < size q → reducedAt reduced i ≡ chosen q i
   at i h = ap (λ (l : List ℕ). reducedAt l i) e ∙ bytes-at (dithering q) i h
@@ -66,9 +64,5 @@ module _ (q : Order) {out₀ : List ℕ} {cells₀ : List Float} (f : Fitting q 
     few = f .few;
   }
 
-  pub finishable : Finishable (q .scale) (size q) (q .pixels) reduced
-  finishable = record { table = f .scale; source = f .pixels; long = long }
-
-  pub finished-all : finishedBytes (q .scale) (size q) (q .pixels) reduced ≡ pixelsOf q
-  unfolding finishedBytes pixelsOf pixelAt
-  finished-all = gather-same (size q) (λ i h. ap (λ (c : ReducedColor). bytesOf (finished (q .scale) (isOpaque (q .pixels) i) c .0)) (at i h))
+  pub finishable : Finishable (q .reduction) (q .scale) (q .pixels) (size q) reduced
+  finishable = record { reduces = f .reduction; scales = f .scale; source = f .pixels; long = long }

@@ -6,5 +6,4 @@ pub mod AnswerLaws
 pub mod NumberLaws
 pub mod CandidateLaws
 pub mod DrawnLaws
-mod FinishLaws
 mod CallLaws

@@ -6,20 +6,16 @@ use mathlib.Core.Bool.{true, cond}
 use mathlib.Core.List.{List}
 use lib.ListN.{length, take, replicate}
 use lib.Ieee.{Float, ofBits, binary32}
-use Rattle.lists.specs.Gather.{gather}
-use Rattle.color.specs.Color.{reducedAt, bytesOf}
-use Rattle.picture.specs.Pixels.{isOpaque}
 use Rattle.patterns.specs.Kinds.{isDiffusion}
 use Rattle.mixing.specs.Widths.{isShift}
 use Rattle.drawing.specs.Lent.{cellsAfter}
 use Rattle.dither.specs.declared.Dithered.{Dithered}
 use Rattle.dither.specs.declared.Dithered.the-variants.{Count, Over}
-use Rattle.dither.specs.Mode.{Order, size, candidateList, candidateBytes, candidateOklab, dithering, tileOver, overBudget, finished, pixelsOf}
+use Rattle.dither.specs.Mode.{Commission, size, candidateList, candidateBytes, candidateOklab, dithering, tileOver, overBudget, pixelsOf}
 
 -- what a picture has that no check refuses
-pub record Fitting (q : Order) (out : List ℕ) (cells : List Float) : Type 0 where
+pub record Fitting (q : Commission) (out : List ℕ) (cells : List Float) : Type 0 where
   pub shift : isShift (q .settings .shift) ≡ true
-  pub kind : q .settings .kind ≤ 10
   pub wide : q .settings .width ≤ 4096
   pub high : q .settings .height ≤ 4096
   pub small : size q ≤ 1048576
@@ -37,25 +33,15 @@ pub record Fitting (q : Order) (out : List ℕ) (cells : List Float) : Type 0 wh
   pub few : q .settings .limit ≤ 256
 
 -- rooms whose fronts are the candidates and their Oklab
-pub record Roomed (q : Order) (places : List ℕ) (oklab : List Float) (count : ℕ) : Type 0 where
+pub record Roomed (q : Commission) (places : List ℕ) (oklab : List Float) (count : ℕ) : Type 0 where
   pub counted : count ≡ length (candidateList q)
   pub bytes : 4 * count ≤ length places
   pub floats : 3 * count ≤ length oklab
   pub colors : take (4 * count) places ≡ candidateBytes (candidateList q)
   pub converted : take (3 * count) oklab ≡ candidateOklab (q .scale) (candidateList q)
 
--- pixels whose reduced choices are lent
-pub record Finishable (scale : List ℕ) (size : ℕ) (pixels reduced : List ℕ) : Type 0 where
-  pub table : length scale ≡ 256
-  pub source : length pixels ≡ 4 * size
-  pub long : length reduced ≡ 4 * size
-
--- what becomes of them
-unfoldable pub finishedBytes : List ℕ → ℕ → List ℕ → List ℕ → List ℕ
-finishedBytes scale size pixels reduced = gather size (λ i. bytesOf (finished scale (isOpaque pixels i) (reducedAt reduced i) .0))
-
 -- the answer, the output pixels and the cells of a picture whose candidates have places
-pub record Completes (q : Order) (out₀ : List ℕ) (cells₀ : List Float) (r : Dithered) (out : List ℕ) (cells : List Float) : Type 0 where
+pub record Completes (q : Commission) (out₀ : List ℕ) (cells₀ : List Float) (r : Dithered) (out : List ℕ) (cells : List Float) : Type 0 where
   pub answer : r ≡ cond (overBudget q) (Over (tileOver q) (length (candidateList q))) (Count (length (candidateList q)))
   pub picture : out ≡ cond (overBudget q) (replicate (length out₀) 0) (pixelsOf q)
   pub cell-buffer : cells ≡ cond (overBudget q) (replicate (length cells₀) (ofBits binary32 0)) (cellsAfter (dithering q) cells₀)

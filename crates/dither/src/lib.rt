@@ -2,8 +2,6 @@
 // choice among them is drawn into the lent pixels as a reduced colour; the tiles are judged; and what keeps to the limit gets
 // its full precision.
 use candidates::Collected;
-use color::NormalizedColor;
-use color::ReducedColor;
 use drawing::ColorZero;
 use drawing::Ditherer;
 use judging::Judged;
@@ -13,8 +11,8 @@ ghost use lib.ListN.{length, replicate};
 ghost use lib.Ieee.{ofBits, binary32};
 ghost use Rattle.replies.specs.Replies.{firstReply};
 ghost use Rattle.drawing.specs.Lent.{reducedBytes, cellsAfter};
-ghost use Rattle.dither.specs.Mode.{order, buffers, dithering, finished, boundsWrong, lengthsWrong, budgetWrong, checks, DitheredToMode};
-ghost use Rattle.dither.specs.Steps.{Fitting, Roomed, Finishable, finishedBytes, Completes};
+ghost use Rattle.dither.specs.Mode.{commission, buffers, dithering, boundsWrong, lengthsWrong, budgetWrong, checks, DitheredToMode};
+ghost use Rattle.dither.specs.Steps.{Fitting, Roomed, Completes};
 
 // What is asked of a picture: the kind of dithering, the mode's shift, the picture's size and its origin in the source
 // picture, the tiles' sides, how many colours a tile may have, and colour zero.
@@ -65,11 +63,9 @@ fn lengths_wrong(kind: u32, size: usize, s: Lengths) -> bool
     requires { ⌜ size ≤ 1048576 ⌝ }
     ensures { λ t. ⌜ t ≡ lengthsWrong kind size s ⌝ }
 {
-    picture::table_wrong(s.reduction)
-        | (picture::table_wrong(s.scale)
-            | ((s.pixels != 4 * size)
-                | (candidates::rooms_wrong(s.places, s.oklab)
-                    | ((s.out != 4 * size) | (s.cells != patterns::cells_needed(kind, size))))))
+    picture::lent_wrong(s.reduction, s.scale, s.pixels, size)
+        | (candidates::rooms_wrong(s.places, s.oklab)
+            | ((s.out != 4 * size) | (s.cells != patterns::cells_needed(kind, size))))
 }
 
 // Whether a tile's side or the limit is outside its bound.
@@ -83,7 +79,7 @@ fn budget_wrong(s: Settings) -> bool
 fn refusal(s: Settings, lengths: Lengths) -> u8
     ensures { λ n. ⌜ n ≡ firstReply (checks s lengths) ⌝ }
 {
-    if mixing::mode_wrong(s.kind, s.shift) {
+    if !patterns::is_kind(s.kind) | !mixing::is_shift(s.shift) {
         return 1;
     }
     if bounds_wrong(s) {
@@ -114,9 +110,9 @@ fn choose(
     out: &mut [u8],
     cells: &mut [f32],
 )
-    requires { ⌜ (let q = order s (now reduction) (now scale) (now pixels) in
+    requires { ⌜ (let q = commission s (now reduction) (now scale) (now pixels) in
         Fitting q (now out) (now cells) × Roomed q (now places) (now oklab) count) ⌝ }
-    ensures { λ _. ⌜ (let d = dithering (order s (now (reduction .entry)) (now (scale .entry)) (now (pixels .entry))) in
+    ensures { λ _. ⌜ (let d = dithering (commission s (now (reduction .entry)) (now (scale .entry)) (now (pixels .entry))) in
         (now (out .exit) ≡ reducedBytes d) × (now (cells .exit) ≡ cellsAfter d (now (cells .entry)))) ⌝ }
 {
     let ditherer = Ditherer {
@@ -143,38 +139,12 @@ fn choose(
     );
 }
 
-// ---- from reduced colours to full precision
-
-// What becomes of a pixel that chose a colour. No public call: the caller sees to the table.
-fn finished_color(scale: &[u8], opaque: bool, c: ReducedColor) -> NormalizedColor
-    requires { ⌜ length (now scale) ≡ 256 ⌝ }
-    ensures { λ n. ⌜ n ≡ finished (now (scale .entry)) opaque c ⌝ }
-{
-    if opaque {
-        return color::normalize_color(scale, c);
-    }
-    NormalizedColor::TRANSPARENT
-}
-
-// Puts each pixel's full precision form in the place of its reduced one. No public call: the caller sees to the lengths.
-fn normalize(size: usize, scale: &[u8], pixels: &[u8], out: &mut [u8])
-    requires { ⌜ Finishable (now scale) size (now pixels) (now out) ⌝ }
-    ensures { λ _. ⌜ now (out .exit) ≡ finishedBytes (now (scale .entry)) size (now (pixels .entry)) (now (out .entry)) ⌝ }
-{
-    let mut i = 0;
-    while i < size {
-        let chosen = ReducedColor(color::rgba_at(out, i));
-        let n = finished_color(scale, picture::is_opaque(pixels, i), chosen);
-        color::put_rgba(out, i, n.0);
-        i += 1;
-    }
-}
-
 // ---- the call
 
 // Sets the output pixels and the cells to 0, as they are left where a tile is over its limit.
 fn wipe(out: &mut [u8], cells: &mut [f32])
-    ensures { λ _. ⌜ (now (out .exit) ≡ replicate (length (now (out .entry))) 0) × (now (cells .exit) ≡ replicate (length (now (cells .entry))) (ofBits binary32 0)) ⌝ }
+    ensures { λ _. ⌜ (now (out .exit) ≡ replicate (length (now (out .entry))) 0)
+        × (now (cells .exit) ≡ replicate (length (now (cells .entry))) (ofBits binary32 0)) ⌝ }
 {
     lists::zero_bytes(out);
     lists::zero_floats(cells);
@@ -193,9 +163,9 @@ fn dither(
     out: &mut [u8],
     cells: &mut [f32],
 ) -> Dithered
-    requires { ⌜ (let q = order s (now reduction) (now scale) (now pixels) in
+    requires { ⌜ (let q = commission s (now reduction) (now scale) (now pixels) in
         Fitting q (now out) (now cells) × Roomed q (now places) (now oklab) count × (count ≤ 65536)) ⌝ }
-    ensures { λ r. ⌜ Completes (order s (now (reduction .entry)) (now (scale .entry)) (now (pixels .entry))) (now (out .entry)) (now (cells .entry))
+    ensures { λ r. ⌜ Completes (commission s (now (reduction .entry)) (now (scale .entry)) (now (pixels .entry))) (now (out .entry)) (now (cells .entry))
         r (now (out .exit)) (now (cells .exit)) ⌝ }
 {
     choose(
@@ -227,7 +197,8 @@ fn dither(
             count: counted,
         };
     }
-    normalize(s.width as usize * s.height as usize, scale, pixels, out);
+    let size = s.width as usize * s.height as usize;
+    drawing::finish(reduction, scale, pixels, size, out);
     Dithered::Count(counted)
 }
 
@@ -244,7 +215,7 @@ pub fn dither_to_mode(
     out: &mut [u8],
     cells: &mut [f32],
 ) -> Dithered
-    ensures { λ r. ⌜ DitheredToMode (order settings (now (reduction .entry)) (now (scale .entry)) (now (pixels .entry)))
+    ensures { λ r. ⌜ DitheredToMode (commission settings (now (reduction .entry)) (now (scale .entry)) (now (pixels .entry)))
         (buffers (now (places .entry)) (now (oklab .entry)) (now (out .entry)) (now (cells .entry)))
         r (buffers (now (places .exit)) (now (oklab .exit)) (now (out .exit)) (now (cells .exit))) ⌝ }
 {

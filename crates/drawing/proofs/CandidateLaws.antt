@@ -1,17 +1,23 @@
--- A dithered choice is one of the candidates, for every kind: the nearest is, and both ends of a bracket are. Assumes nothing.
+-- A dithered choice is one of the candidates, for every kind: the nearest is, and both ends of a bracket are. The Oklab of a list is fit to be chosen from
+-- (`list-fit`). Assumes nothing.
 use mathlib.Core.Path.{_≡_, refl, sym, subst}
 use mathlib.Core.Bool.{Bool, true, false, cond, not, _&&_}
+use mathlib.Core.List.{List}
 use Prim.Native.Nat.{ℕ, _+_, _/_, _%_, _<_}
+use native.Mathlib.Nat.{le-of-eq}
 use lib.Dec.{T}
+use lib.ListN.{getD}
 use lib.Ieee.{lt}
 use Rattle.color.specs.declared.NormalizedColor.{NormalizedColor}
 use Rattle.color.specs.declared.ReducedColor.{ReducedColor}
 use Rattle.color.specs.Color.{sameReduced}
 use Rattle.color.specs.Oklab.{allInRange}
 use Rattle.conversion.specs.Oklab.{toOklab}
+use Rattle.conversion.specs.Lists.{listOklab}
+use Rattle.conversion.proofs.ListLaws.{list-long, list-ranged}
 use Rattle.patterns.specs.Kinds.{isOrdered, isDiffusion}
 use Rattle.patterns.specs.Thresholds.{thresholdAt}
-use Rattle.shortlist.specs.Candidates.{Candidates}
+use Rattle.shortlist.specs.Candidates.{Candidates, RangedList}
 use Rattle.shortlist.specs.Nearest.{nearestOf}
 use Rattle.shortlist.proofs.NearestLaws.{nearest-inside}
 use Rattle.lookup.specs.declared.BracketAt.{BracketAt}
@@ -19,6 +25,10 @@ use Rattle.lookup.specs.Bracket.{bracketAtOf, colored, pickAt}
 use Rattle.lookup.proofs.BracketLaws.{bracket-inside}
 use Rattle.drawing.specs.Drawing.{Among, Drawing, nearestColor, orderedColor, colorAt, biasedAt, ditheredAt, drawn}
 use Rattle.drawing.proofs.DrawnLaws.{drawn-dithered}
+
+-- where the scale table holds bytes
+pub list-fit : (scale : List ℕ) (reduced : ℕ → ReducedColor) (n : ℕ) → ((k : ℕ) → getD scale k 0 < 256) → RangedList (listOklab scale reduced n) n
+list-fit scale reduced n bytes = record { long = le-of-eq (sym (list-long scale reduced n)); range = list-ranged scale reduced bytes n }
 
 module _ (cs : Candidates) (some : 0 < cs .count) where
   pub nearest-among : (c : NormalizedColor) → Among cs (nearestColor cs c)

@@ -32,7 +32,8 @@ module _ (d : Drawing) where
 
     biased-same : (a : ℕ) → biasedIn d f a i ≡ biasedIn d g a i
     unfolding biased
-    biased-same a = ap (biasedOf (byteIn a (d .source i .0))) (cell-same (channel (pictureOf d f) a) (channel (pictureOf d g) a) (kernelOf (d .kind)) i (alike a))
+    biased-same a =
+        ap (biasedOf (byteIn a (d .source i .0))) (cell-same (channel (pictureOf d f) a) (channel (pictureOf d g) a) (kernelOf (d .kind)) i (alike a))
 
     color-same : biasedAt d f i ≡ biasedAt d g i
     unfolding biasedAt
@@ -90,7 +91,8 @@ module _ (d : Drawing) where
     unfolding choiceAt
     drawn-dithered = drawn-choice i ∙ rw s
 
-    pub drawn-plain : isDiffusion (d .kind) ≡ false → drawn d i ≡ colorAt (d .candidates) (d .kind) (d .bracketWidth) (d .originX + i % d .width) (d .originY + i / d .width) (d .source i)
+    pub drawn-plain : isDiffusion (d .kind) ≡ false
+        → drawn d i ≡ colorAt (d .candidates) (d .kind) (d .bracketWidth) (d .originX + i % d .width) (d .originY + i / d .width) (d .source i)
     unfolding ditheredAt
     drawn-plain k = drawn-dithered ∙ rw k
 

@@ -2,6 +2,8 @@
 pub mod DrawnLaws
 pub mod CandidateLaws
 pub mod OutputLaws
+pub mod FinishedLaws
 mod PlaceLaws
 mod TurnLaws
 mod StepLaws
+mod FinishLaws

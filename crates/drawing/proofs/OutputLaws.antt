@@ -2,26 +2,28 @@
 use mathlib.Core.Path.{_≡_, refl, sym, ap, _∙_}
 use mathlib.Core.List.{List}
 use Prim.Native.Nat.{ℕ, _+_, _*_, _≤_, _<_}
-use native.Mathlib.Nat.{add-zero}
 use native.Mathlib.Omega.{arith}
-use lib.Dec.{lit<}
-use lib.ListN.{length, getD}
+use lib.ListN.{length}
 use lib.Seq.{sets}
 use Rattle.lists.specs.Gather.{gather}
-use Rattle.lists.proofs.GatherLaws.{gather-length, gather-at}
+use Rattle.lists.proofs.GatherLaws.{gather-length}
 use Rattle.lists.proofs.FillLaws.{Filling, fill-store, fill-done}
 use Rattle.color.specs.declared.ReducedColor.{ReducedColor}
-use Rattle.color.specs.Color.{rgba, rgbaAt, reducedAt, bytesOf}
+use Rattle.color.specs.Color.{reducedAt, bytesOf}
+use Rattle.color.proofs.PieceLaws.{rgba-gathered}
 use Rattle.drawing.specs.Drawing.{Drawing, drawn}
 use Rattle.drawing.specs.Lent.{pixelBytes, reducedBytes}
 
 module _ (d : Drawing) (was out : List ℕ) (i : ℕ) (long : length was ≡ 4 * (d .width * d .height)) (f : Filling 4 (pixelBytes d) was out i) where
-  pub out-more : (c : ReducedColor) (out′ : List ℕ) → i < d .width * d .height → c ≡ drawn d i → out′ ≡ sets out (4 * i) (bytesOf (c .0)) → Filling 4 (pixelBytes d) was out′ (i + 1)
+  pub out-more : (c : ReducedColor) (out′ : List ℕ) → i < d .width * d .height → c ≡ drawn d i → out′ ≡ sets out (4 * i) (bytesOf (c .0))
+      → Filling 4 (pixelBytes d) was out′ (i + 1)
   out-more c out′ inside e stored = fill-store f (λ j. refl) (omega arith) (stored ∙ ap (λ (x : ReducedColor). sets out (4 * i) (bytesOf (x .0))) e)
 
   pub out-all : d .width * d .height ≤ i → out ≡ reducedBytes d
   unfolding reducedBytes
-  out-all past = let e : i ≡ d .width * d .height = omega (arith, f .within) in fill-done f (long ∙ ap (λ (n : ℕ). 4 * n) (sym e)) ∙ ap (λ (n : ℕ). gather n (pixelBytes d)) e
+  out-all past =
+      let e : i ≡ d .width * d .height = omega (arith, f .within) in
+      fill-done f (long ∙ ap (λ (n : ℕ). 4 * n) (sym e)) ∙ ap (λ (n : ℕ). gather n (pixelBytes d)) e
 
 -- ---- the whole output
 module _ (d : Drawing) where
@@ -31,11 +33,5 @@ module _ (d : Drawing) where
 
   -- colour i of the output is pixel i's choice
   pub bytes-at : (i : ℕ) → i < d .width * d .height → reducedAt (reducedBytes d) i ≡ drawn d i
-  unfolding reducedBytes rgbaAt
-  bytes-at i h = λ q. record { 0 = rgba (first q) (at 1 (lit< tt) q) (at 2 (lit< tt) q) (at 3 (lit< tt) q) }
-    where
-      at : (j : ℕ) → j < 4 → getD (gather (d .width * d .height) (pixelBytes d)) (4 * i + j) 0 ≡ getD (pixelBytes d i) j 0
-      at j l = gather-at 4 (pixelBytes d) (λ j. refl) 0 (d .width * d .height) i j h l
-
-      first : getD (gather (d .width * d .height) (pixelBytes d)) (4 * i) 0 ≡ drawn d i .0 .r
-      first = ap (λ (m : ℕ). getD (gather (d .width * d .height) (pixelBytes d)) m 0) (sym (add-zero (4 * i))) ∙ at 0 (lit< tt)
+  unfolding reducedBytes
+  bytes-at i h = λ t. record { 0 = rgba-gathered (λ j. drawn d j .0) (d .width * d .height) i h t }

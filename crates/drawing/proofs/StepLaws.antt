@@ -18,7 +18,7 @@ use Rattle.color.specs.Color.{rgbaAt}
 use Rattle.color.specs.Tables.{normalizeColor}
 use Rattle.color.specs.Oklab.{allInRange, oklabAt}
 use Rattle.conversion.specs.Oklab.{toOklab}
-use Rattle.picture.specs.Pixels.{sourceAt, pixelAt}
+use Rattle.picture.specs.Pixels.{sourceAt}
 use Rattle.patterns.specs.Kinds.{isOrdered, isDiffusion, kernelOf}
 use Rattle.patterns.specs.Thresholds.{thresholdAt}
 use Rattle.shortlist.specs.Candidates.{Candidates, scaled}
@@ -33,7 +33,7 @@ use Rattle.diffusion.specs.Sends.{residualsOf}
 use Rattle.drawing.specs.declared.ColorZero.{ColorZero}
 use Rattle.drawing.specs.declared.Ditherer.{Ditherer}
 use Rattle.drawing.specs.Drawing.{nearestColor, orderedColor, colorAt, drawn}
-use Rattle.drawing.specs.Lent.{isSkipped, Lent, drawingOf, Ready}
+use Rattle.drawing.specs.Lent.{isSkipped, Lent, reducedLent, candidatesLent, drawingOf, Ready}
 use Rattle.remembered.specs.Table.{memorySize, nearestAlone, nearestBoth}
 use Rattle.remembered.specs.Shorts.{shortlistAt}
 use Rattle.remembered.proofs.TableLaws.{table-none}
@@ -42,9 +42,12 @@ use Rattle.drawing.specs.Turns.{Choosable, Inside, Diffused, RemembersBy
 use Rattle.drawing.proofs.DrawnLaws.{drawn-plain}
 
 pub nearest-is : (colors scale : List ℕ) (oklab : List Float) (n : ℕ) (k : ℕ) (r : Rgba8888) (c : NormalizedColor)
-    → k ≡ nearestIn (oklabAt oklab) n (toOklab c) → r ≡ rgbaAt colors k → _≡_ {A = ReducedColor} (record { 0 = r }) (nearestColor (scaled colors scale oklab n) c)
+    → k ≡ nearestIn (oklabAt oklab) n (toOklab c) → r ≡ rgbaAt colors k
+    → _≡_ {A = ReducedColor} (record { 0 = r }) (nearestColor (scaled colors scale oklab n) c)
 unfolding nearestColor
-nearest-is colors scale oklab n k r c near read = let e : r ≡ rgbaAt colors (nearestIn (oklabAt oklab) n (toOklab c)) = read ∙ ap (rgbaAt colors) near in λ q. record { 0 = e q }
+nearest-is colors scale oklab n k r c near read =
+    let e : r ≡ rgbaAt colors (nearestIn (oklabAt oklab) n (toOklab c)) = read ∙ ap (rgbaAt colors) near in
+    λ q. record { 0 = e q }
 
 -- what is remembered, by the kind
 module _ (t : Ditherer) (cs : Candidates) (memory : List ℕ) where
@@ -64,7 +67,8 @@ remembers-none t cs = go (isOrdered (t .kind))
 
 module _ (cs : Candidates) (width : ℕ) (c : NormalizedColor) (at : BracketAt) (made : at ≡ bracketAtOf cs width (toOklab c) c) where
   -- the positions are entries of a list that holds the candidates
-  pub bracket-entries : 0 < cs .count → ((k : ℕ) → k < cs .count → T (allInRange (cs .oklab k))) → (m : ℕ) → 4 * cs .count ≤ m → (4 * at .dark + 3 < m) × (4 * at .light + 3 < m)
+  pub bracket-entries : 0 < cs .count → ((k : ℕ) → k < cs .count → T (allInRange (cs .oklab k)))
+      → (m : ℕ) → 4 * cs .count ≤ m → (4 * at .dark + 3 < m) × (4 * at .light + 3 < m)
   bracket-entries some range m room =
       let inside = bracket-inside cs width (toOklab c) c some range in
       subst (λ (b : BracketAt). (4 * b .dark + 3 < m) × (4 * b .light + 3 < m)) (sym made) (omega (arith, inside .0), omega (arith, inside .1))
@@ -77,7 +81,8 @@ module _ (cs : Candidates) (width : ℕ) (c : NormalizedColor) (at : BracketAt) 
       let t : threshold ≡ thresholdAt kind x′ y′ = found ∙ (λ q. thresholdAt kind (X q) (Y q)) in
       picked ∙ (λ q. pickAt (b q) (t q))
 
-pub diffused-is : (t : Ditherer) (cs : Candidates) (scale : List ℕ) (zs : List ℤ) (i : ℕ) (color biased normalized : NormalizedColor) (c : ReducedColor) (x y : ℕ) (cells : List Float)
+pub diffused-is : (t : Ditherer) (cs : Candidates) (scale : List ℕ) (zs : List ℤ) (i : ℕ) (color biased normalized : NormalizedColor) (c : ReducedColor)
+    (x y : ℕ) (cells : List Float)
     → biased ≡ biasedColor color zs i → c ≡ nearestColor cs biased → normalized ≡ normalizeColor scale c → x ≡ i % t .width → y ≡ i / t .width
     → cells ≡ map sixteenths (sends zs (residualsOf (biased .0) (normalized .0)) (kernelOf (t .kind)) (t .width) (t .height) (y * t .width + x))
     → Diffused t cs scale zs i color c cells
@@ -89,22 +94,22 @@ diffused-is t cs scale zs i color biased normalized c x y cells B C N X Y passed
     }
 
 -- a pixel that is not skipped, where no error is diffused
-pub plain-is : (t : Ditherer) (zero : ColorZero) (l : Lent) (i : ℕ) (color : NormalizedColor) (c : ReducedColor) → isSkipped zero (pixelAt (l .reduction) (l .pixels) i) ≡ false → isDiffusion (t .kind) ≡ false
-    → color ≡ sourceAt (l .pixels) i
-    → c ≡ colorAt (scaled (l .colors) (l .scale) (l .oklab) (l .count)) (t .kind) (t .«bracket_width») (t .«origin_x» + i % t .width) (t .«origin_y» + i / t .width) color → c ≡ drawn (drawingOf t zero l) i
-plain-is t zero l i color c s k own chosen =
-    chosen
-    ∙ ap (colorAt (scaled (l .colors) (l .scale) (l .oklab) (l .count)) (t .kind) (t .«bracket_width») (t .«origin_x» + i % t .width) (t .«origin_y» + i / t .width)) own
-    ∙ sym (drawn-plain (drawingOf t zero l) i s k)
+module _ (t : Ditherer) (zero : ColorZero) (l : Lent) (i : ℕ) where
+  -- what is chosen for a colour in the pixel's column and row
+  abbrev here : NormalizedColor → ReducedColor
+  here = colorAt (candidatesLent l) (t .kind) (t .«bracket_width») (t .«origin_x» + i % t .width) (t .«origin_y» + i / t .width)
+
+  pub plain-is : (color : NormalizedColor) (c : ReducedColor) → isSkipped zero (reducedLent l i) ≡ false → isDiffusion (t .kind) ≡ false
+      → color ≡ sourceAt (l .pixels) i → c ≡ here color → c ≡ drawn (drawingOf t zero l) i
+  plain-is color c s k own chosen = chosen ∙ ap here own ∙ sym (drawn-plain (drawingOf t zero l) i s k)
 
 module _ {t : Ditherer} {zero : ColorZero} {l : Lent} (ready : Ready t zero l) (i : ℕ) (inside : i < t .width * t .height) where
-  pub choosable : isSkipped zero (pixelAt (l .reduction) (l .pixels) i) ≡ false → Choosable (l .colors) (l .scale) (l .oklab) (l .count)
+  pub choosable : isSkipped zero (reducedLent l i) ≡ false → Choosable (l .colors) (l .scale) (l .oklab) (l .count)
   choosable s = record { some = ready .some i inside s; room = ready .colors; whole = ready .scale; ranged = ready .ranged }
 
   pub placed : Inside t i
   placed = record { inside = inside; wide = ready .wide; high = ready .high; across = ready .across; down = ready .down }
 
 -- whether a pixel is skipped, as the code asks
-pub skipped-as : (zero : ColorZero) (reduction pixels : List ℕ) (i : ℕ) (c : ReducedColor) (t u : Bool) → c ≡ pixelAt reduction pixels i → t ≡ isSkipped zero c → t ≡ u
-    → isSkipped zero (pixelAt reduction pixels i) ≡ u
-skipped-as zero reduction pixels i c t u read asked told = ap (isSkipped zero) (sym read) ∙ sym asked ∙ told
+pub skipped-as : (zero : ColorZero) (own c : ReducedColor) (t u : Bool) → c ≡ own → t ≡ isSkipped zero c → t ≡ u → isSkipped zero own ≡ u
+skipped-as zero own c t u read asked told = ap (isSkipped zero) (sym read) ∙ sym asked ∙ told

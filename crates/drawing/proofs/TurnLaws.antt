@@ -80,12 +80,15 @@ module _ (t : Ditherer) (zero : ColorZero) (l : Lent) where
   abbrev before : ℕ → List ℤ
   before i = scatter (kernelOf (t .kind)) (pictureOf d (drawn d)) i
 
-  pub turn-cells : ((v : ℕ) → getD (l .scale) v 0 ≤ 255) → (i : ℕ) (cells : List Float) → i ≤ t .width * t .height → cells ≡ cellsBefore d i → Cells 4080 cells (before i)
+  pub turn-cells : ((v : ℕ) → getD (l .scale) v 0 ≤ 255) → (i : ℕ) (cells : List Float) → i ≤ t .width * t .height
+      → cells ≡ cellsBefore d i → Cells 4080 cells (before i)
   unfolding cellsBefore
-  turn-cells bytes i cells h is = step-cells (kernelOf (t .kind)) (pictureOf d (drawn d)) i h cells is (kernel-total (t .kind)) (λ a j A. scaled-byte (l .scale) bytes a (drawn d j))
+  turn-cells bytes i cells h is =
+      step-cells (kernelOf (t .kind)) (pictureOf d (drawn d)) i h cells is (kernel-total (t .kind)) (λ a j A. scaled-byte (l .scale) bytes a (drawn d j))
 
   -- a dithered pixel: what it chose, and the cells that it left
-  module _ (i : ℕ) (inside : i < t .width * t .height) (dithers : d .skipped i ≡ false) (diffuses : isDiffusion (t .kind) ≡ true) (color : NormalizedColor) (own : color ≡ d .source i)
+  module _ (i : ℕ) (inside : i < t .width * t .height) (dithers : d .skipped i ≡ false) (diffuses : isDiffusion (t .kind) ≡ true)
+      (color : NormalizedColor) (own : color ≡ d .source i)
       (c : ReducedColor) (cells : List Float) (made : Diffused t (d .candidates) (l .scale) (before i) i color c cells) where
     pub turn-choice : c ≡ drawn d i
     turn-choice =
@@ -97,10 +100,16 @@ module _ (t : Ditherer) (zero : ColorZero) (l : Lent) where
     pub turn-passed : cells ≡ cellsBefore d (i + 1)
     unfolding cellsBefore
     turn-passed =
-        step-dithered k′ (pictureOf d (drawn d)) i (i % t .width) (i / t .width) color (normalizeColor (l .scale) c) cells (div-add-mod' i (t .width)) (ap not dithers)
+        step-dithered k′ (pictureOf d (drawn d)) i (i % t .width) (i / t .width) color (normalizeColor (l .scale) c) cells (div-add-mod' i (t .width))
+        (ap not dithers)
         (λ a A. ap (λ (x : NormalizedColor). byteIn a (x .0)) (sym own))
         (λ a A. ap (λ (x : ReducedColor). byteIn a (normalizeColor (l .scale) x .0)) (sym turn-choice))
-        (made .passed ∙ ap (λ (j : ℕ). map sixteenths (sends (before i) (residualsOf (biasedColor color (before i) i .0) (normalizeColor (l .scale) c .0)) k′ (t .width) (t .height) j)) (sym (div-add-mod' i (t .width))))
+        (made .passed ∙ ap passedTo (sym (div-add-mod' i (t .width))))
       where
         k′ : List Target
         k′ = kernelOf (t .kind)
+
+        -- the cells, where the residual is passed on from pixel j
+        passedTo : ℕ → List Float
+        passedTo j =
+            map sixteenths (sends (before i) (residualsOf (biasedColor color (before i) i .0) (normalizeColor (l .scale) c .0)) k′ (t .width) (t .height) j)

@@ -10,9 +10,9 @@ use Rattle.lists.specs.Gather.{gather}
 use Rattle.color.specs.declared.ReducedColor.{ReducedColor}
 use Rattle.color.specs.Color.{isTransparent, sameRgb, bytesOf}
 use Rattle.color.specs.Tables.{normalizeColor}
-use Rattle.picture.specs.Pixels.{sourceAt, pixelAt}
+use Rattle.picture.specs.Pixels.{sourceAt, reducedBy}
 use Rattle.patterns.specs.Kinds.{isDiffusion, kernelOf}
-use Rattle.shortlist.specs.Candidates.{scaled, RangedList}
+use Rattle.shortlist.specs.Candidates.{Candidates, scaled, RangedList}
 use Rattle.diffusion.specs.Scatter.{cellBuffer}
 use Rattle.drawing.specs.declared.ColorZero.{ColorZero}
 use Rattle.drawing.specs.declared.ColorZero.the-variants.{Absent, Is}
@@ -40,6 +40,14 @@ pub record Lent : Type 0 where
 abbrev pub lent : List ℕ → List ℕ → List ℕ → List ℕ → List Float → ℕ → Lent
 lent reduction scale pixels colors oklab count = record { reduction = reduction; scale = scale; pixels = pixels; colors = colors; oklab = oklab; count = count }
 
+-- the pixels' reduced colours, and the candidates
+abbrev pub reducedLent : Lent → ℕ → ReducedColor
+reducedLent l = reducedBy (l .reduction) (l .pixels)
+
+abbrev pub candidatesLent : Lent → Candidates
+candidatesLent l = scaled (l .colors) (l .scale) (l .oklab) (l .count)
+
+-- the picture that is drawn
 abbrev pub drawingOf : Ditherer → ColorZero → Lent → Drawing
 drawingOf t zero l =
     record {
@@ -50,9 +58,9 @@ drawingOf t zero l =
       kind = t .kind;
       bracketWidth = t .«bracket_width»;
       source = sourceAt (l .pixels);
-      reduced = pixelAt (l .reduction) (l .pixels);
-      skipped = λ i. isSkipped zero (pixelAt (l .reduction) (l .pixels) i);
-      candidates = scaled (l .colors) (l .scale) (l .oklab) (l .count);
+      reduced = reducedLent l;
+      skipped = λ i. isSkipped zero (reducedLent l i);
+      candidates = candidatesLent l;
       normalize = normalizeColor (l .scale);
     }
 
@@ -69,7 +77,6 @@ cellsAfter d was = cond (isDiffusion (d .kind)) (cellBuffer (kernelOf (d .kind))
 
 -- all that is lent fits the picture
 pub record Ready (t : Ditherer) (zero : ColorZero) (l : Lent) : Type 0 where
-  pub kind : t .kind ≤ 10
   pub wide : t .width ≤ 4096
   pub high : t .height ≤ 4096
   pub few : t .width * t .height ≤ 1048576
@@ -80,4 +87,4 @@ pub record Ready (t : Ditherer) (zero : ColorZero) (l : Lent) : Type 0 where
   pub pixels : length (l .pixels) ≡ 4 * (t .width * t .height)
   pub colors : 4 * l .count ≤ length (l .colors)
   pub ranged : RangedList (l .oklab) (l .count)
-  pub some : (i : ℕ) → i < t .width * t .height → isSkipped zero (pixelAt (l .reduction) (l .pixels) i) ≡ false → 0 < l .count
+  pub some : (i : ℕ) → i < t .width * t .height → isSkipped zero (reducedLent l i) ≡ false → 0 < l .count

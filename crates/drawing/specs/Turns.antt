@@ -43,7 +43,8 @@ pub record Inside (t : Ditherer) (i : ℕ) : Type 0 where
 
 -- pixel i of that colour, whose cells are among the sixteenths zs: c is the nearest to its biased colour, and the cells are those after the
 -- biased colour's residual is passed on
-pub record Diffused (t : Ditherer) (cs : Candidates) (scale : List ℕ) (zs : List ℤ) (i : ℕ) (color : NormalizedColor) (c : ReducedColor) (cells : List Float) : Type 0 where
+pub record Diffused (t : Ditherer) (cs : Candidates) (scale : List ℕ) (zs : List ℤ) (i : ℕ) (color : NormalizedColor)
+    (c : ReducedColor) (cells : List Float) : Type 0 where
   pub choice : c ≡ nearestColor cs (biasedColor color zs i)
   pub passed :
       cells ≡ map sixteenths (sends zs (residualsOf (biasedColor color zs i .0) (normalizeColor scale c .0)) (kernelOf (t .kind)) (t .width) (t .height) i)

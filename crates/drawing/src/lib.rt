@@ -1,5 +1,5 @@
-// Drawing a picture: every pixel's choice, for all kinds of dithering, into a lent buffer as reduced bytes. Names are those
-// of `Ditherer` in src/dither.rs; the error cells are lent.
+// Drawing a picture: every pixel's choice, for all kinds of dithering, into a lent buffer as reduced bytes; and finishing it,
+// which gives the choices their full precision. Names are those of `Ditherer` in src/dither.rs; the error cells are lent.
 use color::NormalizedColor;
 use color::ReducedColor;
 use lists::zero_floats;
@@ -12,13 +12,17 @@ ghost use lib.IntN.{ℤ};
 ghost use lib.ListN.{length};
 ghost use Rattle.floats.specs.Cells.{Cells};
 ghost use Rattle.patterns.specs.Kinds.{isOrdered, isDiffusion};
+ghost use Rattle.color.specs.Color.{reducedAt};
+ghost use Rattle.color.specs.Tables.{normalizeColor};
 ghost use Rattle.color.specs.Oklab.{oklabAt};
+ghost use Rattle.picture.specs.Pixels.{reducedBy};
 ghost use Rattle.shortlist.specs.Candidates.{scaled};
 ghost use Rattle.remembered.specs.Table.{nearestAlone, TableOf};
 ghost use Rattle.remembered.specs.Shorts.{TableAndRows};
 ghost use Rattle.drawing.specs.Drawing.{nearestColor, orderedColor, colorAt, drawn};
-ghost use Rattle.drawing.specs.Lent.{isZero, isSkipped, lent, drawingOf, reducedBytes, cellsAfter, Ready};
+ghost use Rattle.drawing.specs.Lent.{isZero, isSkipped, lent, candidatesLent, drawingOf, reducedBytes, cellsAfter, Ready};
 ghost use Rattle.drawing.specs.Turns.{Linear, Choosable, Inside, Diffused, cellsBefore, Remembers};
+ghost use Rattle.drawing.specs.Finished.{finished, finishedBytes, Finishable};
 
 // A picture's colour zero: absent, or one reduced colour.
 pub enum ColorZero {
@@ -37,7 +41,7 @@ pub struct Ditherer {
 }
 
 // Whether a colour has colour zero's rgb.
-pub fn is_zero(zero: ColorZero, c: ReducedColor) -> bool
+fn is_zero(zero: ColorZero, c: ReducedColor) -> bool
     ensures { λ t. ⌜ t ≡ isZero zero c ⌝ }
 {
     match zero {
@@ -47,7 +51,7 @@ pub fn is_zero(zero: ColorZero, c: ReducedColor) -> bool
 }
 
 // Whether a pixel of this reduced colour is skipped: it is transparent, or has colour zero's rgb.
-pub fn is_skipped(zero: ColorZero, c: ReducedColor) -> bool
+fn is_skipped(zero: ColorZero, c: ReducedColor) -> bool
     ensures { λ t. ⌜ t ≡ isSkipped zero c ⌝ }
 {
     c.is_transparent() | is_zero(zero, c)
@@ -65,7 +69,8 @@ fn nearest_color(
     color: NormalizedColor,
     memory: &mut [u64; MEMORY],
 ) -> ReducedColor
-    requires { ⌜ Linear (now linear) × Choosable (now colors) (now scale) (now oklab) count × TableOf (nearestAlone (oklabAt (now oklab)) count) (now memory) ⌝ }
+    requires { ⌜ Linear (now linear) × Choosable (now colors) (now scale) (now oklab) count
+        × TableOf (nearestAlone (oklabAt (now oklab)) count) (now memory) ⌝ }
     ensures { λ c. ⌜ (c ≡ nearestColor (scaled (now (colors .entry)) (now (scale .entry)) (now (oklab .entry)) count) color)
         × TableOf (nearestAlone (oklabAt (now (oklab .entry))) count) (now (memory .exit)) ⌝ }
 {
@@ -121,9 +126,9 @@ impl Ditherer {
     ) -> ReducedColor
         requires { ⌜ Linear (now linear) × Choosable (now colors) (now scale) (now oklab) count × Inside self i × (isOrdered (self .kind) ≡ true)
             × TableAndRows (scaled (now colors) (now scale) (now oklab) count) (self .«bracket_width») (now memory) ⌝ }
-        ensures { λ c. ⌜ (c ≡ orderedColor (scaled (now (colors .entry)) (now (scale .entry)) (now (oklab .entry)) count) (self .kind) (self .«bracket_width»)
-            (self .«origin_x» + i % self .width) (self .«origin_y» + i / self .width) color)
-            × TableAndRows (scaled (now (colors .entry)) (now (scale .entry)) (now (oklab .entry)) count) (self .«bracket_width») (now (memory .exit)) ⌝ }
+        ensures { λ c. ⌜ (let cs = scaled (now (colors .entry)) (now (scale .entry)) (now (oklab .entry)) count in
+            (c ≡ orderedColor cs (self .kind) (self .«bracket_width») (self .«origin_x» + i % self .width) (self .«origin_y» + i / self .width) color)
+            × TableAndRows cs (self .«bracket_width») (now (memory .exit))) ⌝ }
     {
         let width = self.bracket_width;
         let at = remembered::bracket_positions(
@@ -157,9 +162,9 @@ impl Ditherer {
     ) -> ReducedColor
         requires { ⌜ Linear (now linear) × Choosable (now colors) (now scale) (now oklab) count × Inside self i
             × Remembers self (scaled (now colors) (now scale) (now oklab) count) (now memory) ⌝ }
-        ensures { λ c. ⌜ (c ≡ colorAt (scaled (now (colors .entry)) (now (scale .entry)) (now (oklab .entry)) count) (self .kind) (self .«bracket_width»)
-            (self .«origin_x» + i % self .width) (self .«origin_y» + i / self .width) color)
-            × Remembers self (scaled (now (colors .entry)) (now (scale .entry)) (now (oklab .entry)) count) (now (memory .exit)) ⌝ }
+        ensures { λ c. ⌜ (let cs = scaled (now (colors .entry)) (now (scale .entry)) (now (oklab .entry)) count in
+            (c ≡ colorAt cs (self .kind) (self .«bracket_width») (self .«origin_x» + i % self .width) (self .«origin_y» + i / self .width) color)
+            × Remembers self cs (now (memory .exit))) ⌝ }
     {
         if patterns::is_ordered(self.kind) {
             return self.ordered_color_at(linear, colors, scale, oklab, count, i, color, memory);
@@ -184,9 +189,9 @@ impl Ditherer {
         requires { ⌜ Linear (now linear) × Choosable (now colors) (now scale) (now oklab) count × Inside self i × (isDiffusion (self .kind) ≡ true)
             × (length (now cells) ≡ 3 * (self .width * self .height)) × ((zs : List ℤ) × Cells 4080 (now cells) zs)
             × TableOf (nearestAlone (oklabAt (now oklab)) count) (now memory) ⌝ }
-        ensures { λ c. ⌜ ((zs : List ℤ) → Cells 4080 (now (cells .entry)) zs
-            → Diffused self (scaled (now (colors .entry)) (now (scale .entry)) (now (oklab .entry)) count) (now (scale .entry)) zs i color c (now (cells .exit)))
-            × TableOf (nearestAlone (oklabAt (now (oklab .entry))) count) (now (memory .exit)) ⌝ }
+        ensures { λ c. ⌜ (let cs = scaled (now (colors .entry)) (now (scale .entry)) (now (oklab .entry)) count in
+            ((zs : List ℤ) → Cells 4080 (now (cells .entry)) zs → Diffused self cs (now (scale .entry)) zs i color c (now (cells .exit)))
+            × TableOf (nearestAlone (oklabAt (now (oklab .entry))) count) (now (memory .exit))) ⌝ }
     {
         let biased = diffusion::biased_color(cells, i, color);
         let chosen = nearest_color(linear, colors, scale, oklab, count, biased, memory);
@@ -222,13 +227,13 @@ impl Ditherer {
         i: usize,
         memory: &mut [u64; MEMORY],
     ) -> ReducedColor
-        requires { ⌜ Linear (now linear) × Ready self zero (lent (now reduction) (now scale) (now pixels) (now colors) (now oklab) count)
-            × (isDiffusion (self .kind) ≡ false) × (i < self .width * self .height)
-            × Remembers self (scaled (now colors) (now scale) (now oklab) count) (now memory) ⌝ }
-        ensures { λ c. ⌜ (c ≡ drawn (drawingOf self zero (lent (now (reduction .entry)) (now (scale .entry)) (now (pixels .entry)) (now (colors .entry)) (now (oklab .entry)) count)) i)
-            × Remembers self (scaled (now (colors .entry)) (now (scale .entry)) (now (oklab .entry)) count) (now (memory .exit)) ⌝ }
+        requires { ⌜ (let l = lent (now reduction) (now scale) (now pixels) (now colors) (now oklab) count in
+            Linear (now linear) × Ready self zero l × (isDiffusion (self .kind) ≡ false) × (i < self .width * self .height)
+            × Remembers self (candidatesLent l) (now memory)) ⌝ }
+        ensures { λ c. ⌜ (let l = lent (now (reduction .entry)) (now (scale .entry)) (now (pixels .entry)) (now (colors .entry)) (now (oklab .entry)) count in
+            (c ≡ drawn (drawingOf self zero l) i) × Remembers self (candidatesLent l) (now (memory .exit))) ⌝ }
     {
-        let kept = picture::pixel_at(reduction, pixels, i);
+        let kept = picture::reduced_at(reduction, pixels, i);
         if is_skipped(zero, kept) {
             return kept;
         }
@@ -252,17 +257,16 @@ impl Ditherer {
         memory: &mut [u64; MEMORY],
         cells: &mut [f32],
     ) -> ReducedColor
-        requires { ⌜ Linear (now linear) × Ready self zero (lent (now reduction) (now scale) (now pixels) (now colors) (now oklab) count)
-            × (isDiffusion (self .kind) ≡ true) × (i < self .width * self .height)
-            × (now cells ≡ cellsBefore (drawingOf self zero (lent (now reduction) (now scale) (now pixels) (now colors) (now oklab) count)) i)
-            × TableOf (nearestAlone (oklabAt (now oklab)) count) (now memory) ⌝ }
-        ensures { λ c. ⌜ (c ≡ drawn (drawingOf self zero (lent (now (reduction .entry)) (now (scale .entry)) (now (pixels .entry)) (now (colors .entry)) (now (oklab .entry)) count)) i)
-            × (now (cells .exit) ≡ cellsBefore (drawingOf self zero (lent (now (reduction .entry)) (now (scale .entry)) (now (pixels .entry)) (now (colors .entry)) (now (oklab .entry)) count)) (i + 1))
-            × TableOf (nearestAlone (oklabAt (now (oklab .entry))) count) (now (memory .exit)) ⌝ }
+        requires { ⌜ (let l = lent (now reduction) (now scale) (now pixels) (now colors) (now oklab) count in
+            Linear (now linear) × Ready self zero l × (isDiffusion (self .kind) ≡ true) × (i < self .width * self .height)
+            × (now cells ≡ cellsBefore (drawingOf self zero l) i) × TableOf (nearestAlone (oklabAt (now oklab)) count) (now memory)) ⌝ }
+        ensures { λ c. ⌜ (let d = drawingOf self zero
+            (lent (now (reduction .entry)) (now (scale .entry)) (now (pixels .entry)) (now (colors .entry)) (now (oklab .entry)) count) in
+            (c ≡ drawn d i) × (now (cells .exit) ≡ cellsBefore d (i + 1)) × TableOf (nearestAlone (oklabAt (now (oklab .entry))) count) (now (memory .exit))) ⌝ }
     {
-        let c = picture::pixel_at(reduction, pixels, i);
-        if is_skipped(zero, c) {
-            return c;
+        let kept = picture::reduced_at(reduction, pixels, i);
+        if is_skipped(zero, kept) {
+            return kept;
         }
         let color = picture::source_at(pixels, i);
         self.diffusion_color_at(linear, colors, scale, oklab, count, i, color, memory, cells)
@@ -284,10 +288,11 @@ impl Ditherer {
         memory: &mut [u64; MEMORY],
         out: &mut [u8],
     )
-        requires { ⌜ Linear (now linear) × Ready self zero (lent (now reduction) (now scale) (now pixels) (now colors) (now oklab) count)
-            × (isDiffusion (self .kind) ≡ false) × (length (now out) ≡ 4 * (self .width * self .height))
-            × Remembers self (scaled (now colors) (now scale) (now oklab) count) (now memory) ⌝ }
-        ensures { λ _. ⌜ now (out .exit) ≡ reducedBytes (drawingOf self zero (lent (now (reduction .entry)) (now (scale .entry)) (now (pixels .entry)) (now (colors .entry)) (now (oklab .entry)) count)) ⌝ }
+        requires { ⌜ (let l = lent (now reduction) (now scale) (now pixels) (now colors) (now oklab) count in
+            Linear (now linear) × Ready self zero l × (isDiffusion (self .kind) ≡ false) × (length (now out) ≡ 4 * (self .width * self .height))
+            × Remembers self (candidatesLent l) (now memory)) ⌝ }
+        ensures { λ _. ⌜ now (out .exit) ≡ reducedBytes (drawingOf self zero
+            (lent (now (reduction .entry)) (now (scale .entry)) (now (pixels .entry)) (now (colors .entry)) (now (oklab .entry)) count)) ⌝ }
     {
         let size = self.width as usize * self.height as usize;
         let mut i = 0;
@@ -325,10 +330,11 @@ impl Ditherer {
         cells: &mut [f32],
     )
         requires { ⌜ Linear (now linear) × Ready self zero (lent (now reduction) (now scale) (now pixels) (now colors) (now oklab) count)
-            × (isDiffusion (self .kind) ≡ true) × (length (now out) ≡ 4 * (self .width * self .height)) × (length (now cells) ≡ 3 * (self .width * self .height))
-            × TableOf (nearestAlone (oklabAt (now oklab)) count) (now memory) ⌝ }
-        ensures { λ _. ⌜ (now (out .exit) ≡ reducedBytes (drawingOf self zero (lent (now (reduction .entry)) (now (scale .entry)) (now (pixels .entry)) (now (colors .entry)) (now (oklab .entry)) count)))
-            × (now (cells .exit) ≡ cellsBefore (drawingOf self zero (lent (now (reduction .entry)) (now (scale .entry)) (now (pixels .entry)) (now (colors .entry)) (now (oklab .entry)) count)) (self .width * self .height)) ⌝ }
+            × (isDiffusion (self .kind) ≡ true) × (length (now out) ≡ 4 * (self .width * self .height))
+            × (length (now cells) ≡ 3 * (self .width * self .height)) × TableOf (nearestAlone (oklabAt (now oklab)) count) (now memory) ⌝ }
+        ensures { λ _. ⌜ (let d = drawingOf self zero
+            (lent (now (reduction .entry)) (now (scale .entry)) (now (pixels .entry)) (now (colors .entry)) (now (oklab .entry)) count) in
+            (now (out .exit) ≡ reducedBytes d) × (now (cells .exit) ≡ cellsBefore d (self .width * self .height))) ⌝ }
     {
         zero_floats(cells);
         let size = self.width as usize * self.height as usize;
@@ -367,9 +373,11 @@ impl Ditherer {
         cells: &mut [f32],
     )
         requires { ⌜ Ready self zero (lent (now reduction) (now scale) (now pixels) (now colors) (now oklab) count)
-            × (length (now out) ≡ 4 * (self .width * self .height)) × (isDiffusion (self .kind) ≡ true → length (now cells) ≡ 3 * (self .width * self .height)) ⌝ }
-        ensures { λ _. ⌜ (now (out .exit) ≡ reducedBytes (drawingOf self zero (lent (now (reduction .entry)) (now (scale .entry)) (now (pixels .entry)) (now (colors .entry)) (now (oklab .entry)) count)))
-            × (now (cells .exit) ≡ cellsAfter (drawingOf self zero (lent (now (reduction .entry)) (now (scale .entry)) (now (pixels .entry)) (now (colors .entry)) (now (oklab .entry)) count)) (now (cells .entry))) ⌝ }
+            × (length (now out) ≡ 4 * (self .width * self .height))
+            × (isDiffusion (self .kind) ≡ true → length (now cells) ≡ 3 * (self .width * self .height)) ⌝ }
+        ensures { λ _. ⌜ (let d = drawingOf self zero
+            (lent (now (reduction .entry)) (now (scale .entry)) (now (pixels .entry)) (now (colors .entry)) (now (oklab .entry)) count) in
+            (now (out .exit) ≡ reducedBytes d) × (now (cells .exit) ≡ cellsAfter d (now (cells .entry)))) ⌝ }
     {
         let linear = conversion::linear::linear_table();
         let mut memory = [0u64; MEMORY];
@@ -401,5 +409,35 @@ impl Ditherer {
                 out,
             );
         }
+    }
+}
+
+// ---- the drawn picture at full precision
+
+// What becomes of a pixel that chose a colour. No public call: the caller sees to the table.
+fn finished_color(scale: &[u8], seen: bool, c: ReducedColor) -> NormalizedColor
+    requires { ⌜ length (now scale) ≡ 256 ⌝ }
+    ensures { λ r. ⌜ r ≡ finished (normalizeColor (now (scale .entry))) seen c ⌝ }
+{
+    if seen {
+        return color::normalize_color(scale, c);
+    }
+    NormalizedColor::TRANSPARENT
+}
+
+// Finishes n pixels, whose reduced choices are lent: each choice's full precision form takes its place. No public call: the
+// caller sees to the lengths.
+pub fn finish(reduction: &[u8], scale: &[u8], pixels: &[u8], n: usize, out: &mut [u8])
+    requires { ⌜ Finishable (now reduction) (now scale) (now pixels) n (now out) ⌝ }
+    ensures { λ _. ⌜ (let reduced = reducedBy (now (reduction .entry)) (now (pixels .entry)) in
+        now (out .exit) ≡ finishedBytes (normalizeColor (now (scale .entry))) reduced (reducedAt (now (out .entry))) n) ⌝ }
+{
+    let mut i = 0;
+    while i < n {
+        let chosen = ReducedColor(color::rgba_at(out, i));
+        let seen = picture::is_seen(reduction, pixels, i);
+        let c = finished_color(scale, seen, chosen);
+        color::put_rgba(out, i, c.0);
+        i += 1;
     }
 }

@@ -6,7 +6,7 @@ use crate::account::Shares;
 use dither::Dithered;
 use dither::Settings;
 use drawing::ColorZero;
-use quantize::Reply;
+use quantize::Quantization;
 
 // Makes the table that leaves every byte as it is.
 fn identity(table: &mut [u8]) {
@@ -65,7 +65,7 @@ fn pair_is(kind: u32, shares: Shares, alpha: u8, said: Account) -> bool {
         &mut out,
         &mut cells,
     );
-    if let Reply::Refused(_) = reply {
+    if let Quantization::Refused(_) = reply {
         return false;
     }
     are_black(&indices, &out, alpha)
@@ -227,8 +227,8 @@ fn number_for(palette: &[u8]) -> u8 {
         &mut out,
         &mut cells,
     ) {
-        Reply::Accepted => 0,
-        Reply::Refused(number) => number,
+        Quantization::Accepted => 0,
+        Quantization::Refused(number) => number,
     }
 }
 

@@ -17,9 +17,10 @@ use Rattle.drawing.specs.Lent.{cellsAfter}
 use Rattle.dither.specs.declared.Dithered.{Dithered}
 use Rattle.dither.specs.declared.Dithered.the-variants.{Count, Over, Refused}
 use Rattle.dither.specs.Mode as mode
-use Rattle.dither.specs.Mode.{Buffers, buffers, candidateList, tileOver, leaves, DitheredToMode}
-use Rattle.quantize.specs.declared.Reply.{Reply}
-use Rattle.quantize.specs.Quantize.{Order, quantizing, indicesOf, pixelsOf, replyOf, numberOf, Quantized}
+use Rattle.dither.specs.Mode.{Buffers, candidateList, tileOver, leaves, buffersAfter, DitheredToMode}
+use Rattle.dither.proofs.Unique.{left-is}
+use Rattle.quantize.specs.declared.Quantization.{Quantization}
+use Rattle.quantize.specs.Quantize.{Commission, quantizing, indicesOf, pixelsOf, numberOf, Quantized}
 use Rattle.exports.specs.Pictures.{badgeCandidateColorsIn, badgeQuantizePixels, badgeDitherToMode}
 
 -- ---- `candidate_colors_in`
@@ -40,16 +41,12 @@ candidates-by-case x was {r} h e =
     by-number (suc n) bytes floats = refl
 
 -- ---- `quantize_pixels`
-replied : (n : ℕ) → numberOf (replyOf n) ≡ n
-replied zero = refl
-replied (suc n) = refl
-
 -- where the answer r is the case y
-pub quantized-by-case : (q : Order) (indices₀ out₀ : List ℕ) (cells₀ : List Float) {r y : Reply} {indices out : List ℕ} {cells : List Float}
+pub quantized-by-case : (q : Commission) (indices₀ out₀ : List ℕ) (cells₀ : List Float) {r y : Quantization} {indices out : List ℕ} {cells : List Float}
     → Quantized q indices₀ out₀ cells₀ r indices out cells → r ≡ y → (numberOf y, indices, out, cells) ≡ badgeQuantizePixels q indices₀ out₀ cells₀
 quantized-by-case q indices₀ out₀ cells₀ h e =
     (λ i. (numberOf (sym e i), h .index-buffer i, h .picture i, h .cell-buffer i))
-    ∙ ap (λ (n : ℕ). (n, after n (indicesOf q) indices₀, after n (pixelsOf q) out₀, after n (cellsAfter (quantizing q) cells₀) cells₀)) (ap numberOf (h .answer) ∙ replied _)
+    ∙ ap (λ (n : ℕ). (n, after n (indicesOf q) indices₀, after n (pixelsOf q) out₀, after n (cellsAfter (quantizing q) cells₀) cells₀)) (h .answer .number)
 
 -- ---- `dither_to_mode`
 -- an answer handed over, with the buffers, where the pointers held `count` and `tile`
@@ -58,21 +55,24 @@ telling then count tile (Count k) = (0, then, k, tile)
 telling then count tile (Over t k) = (8, then, k, t)
 telling then count tile (Refused n) = (n, then, count, tile)
 
-module _ (q : mode.Order) where
+module _ (q : mode.Commission) where
   abbrev candidates : ℕ
   candidates = length (candidateList q)
 
-  told : (n : ℕ) (then : Buffers) (count tile : ℕ) → telling then count tile (mode.answerOf n q) ≡ (n, then, leaves n candidates candidates count, leaves n tile (tileOver q) tile)
+  told : (n : ℕ) (then : Buffers) (count tile : ℕ)
+      → telling then count tile (mode.answerOf q n) ≡ (n, then, leaves n candidates candidates count, leaves n tile (tileOver q) tile)
   unfolding mode.answerOf
   told zero then count tile = refl
   told (suc n) then count tile = rw (ne-eqb (suc n) 0 (λ e. omega arith)) (go (eqb (suc n) 8) refl)
     where
-      go : (t : Bool) → eqb (suc n) 8 ≡ t → telling then count tile (cond t (Over (tileOver q) candidates) (Refused (suc n))) ≡ (suc n, then, cond t candidates count, cond t (tileOver q) tile)
+      go : (t : Bool) → eqb (suc n) 8 ≡ t
+          → telling then count tile (cond t (Over (tileOver q) candidates) (Refused (suc n))) ≡ (suc n, then, cond t candidates count, cond t (tileOver q) tile)
       go true e = λ i. (sym (eqb-true (suc n) 8 e) i, then, candidates, tileOver q)
       go false e = refl
 
   -- where the answer r is the case y
-  pub mode-by-case : (was : Buffers) (count tile : ℕ) {r y : Dithered} {then : Buffers} → DitheredToMode q was r then → r ≡ y → telling then count tile y ≡ badgeDitherToMode q was count tile
-  mode-by-case was count tile h e =
-      (λ i. telling (buffers (h .candidate-places i) (h .candidate-oklab i) (h .picture i) (h .cell-buffer i)) count tile ((sym e ∙ h .answer) i))
-      ∙ told (mode.numberFor q was) _ count tile
+  pub mode-by-case : (was : Buffers) (count tile : ℕ) {r y : Dithered} {then : Buffers} → DitheredToMode q was r then → r ≡ y
+      → telling then count tile y ≡ badgeDitherToMode q was count tile
+  mode-by-case was count tile {r} h e =
+      (λ i. telling (left-is q was h i) count tile ((sym e ∙ h .answer .answer) i)) ∙ told (mode.numberOf r) _ count tile
+      ∙ ap (λ (n : ℕ). (n, buffersAfter q was n, leaves n candidates candidates count, leaves n tile (tileOver q) tile)) (h .answer .number)

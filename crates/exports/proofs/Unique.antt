@@ -6,7 +6,7 @@ use lib.Ieee.{Float}
 use Rattle.replies.specs.Unique.{Unique}
 use Rattle.replies.proofs.UniqueLaws.{equal-only}
 use Rattle.candidates.specs.Calls.{Asked}
-use Rattle.quantize.specs.Quantize.{Order}
+use Rattle.quantize.specs.Quantize.{Commission}
 use Rattle.dither.specs.Mode as mode
 use Rattle.exports.specs.Answers.{badgeToOklab, badgeOklabSqdist, badgeOrderedThreshold, badgeBracketWidth, badgeLerp}
 use Rattle.exports.specs.Lookups.{badgeNearest, badgeNearestTwo, badgeOrderedBracket, badgePick}
@@ -44,9 +44,10 @@ badge-pick-unique dark light ratio kind column row chosen = equal-only _
 pub badge-candidate-colors-in-unique : (asked : Asked) (count : ℕ) → Unique (λ (x : ℕ × List ℕ × List Float × ℕ). x ≡ badgeCandidateColorsIn asked count)
 badge-candidate-colors-in-unique asked count = equal-only _
 
-pub badge-quantize-pixels-unique : (q : Order) (indices out : List ℕ) (cells : List Float)
+pub badge-quantize-pixels-unique : (q : Commission) (indices out : List ℕ) (cells : List Float)
     → Unique (λ (x : ℕ × List ℕ × List ℕ × List Float). x ≡ badgeQuantizePixels q indices out cells)
 badge-quantize-pixels-unique q indices out cells = equal-only _
 
-pub badge-dither-to-mode-unique : (q : mode.Order) (was : mode.Buffers) (count tile : ℕ) → Unique (λ (x : ℕ × mode.Buffers × ℕ × ℕ). x ≡ badgeDitherToMode q was count tile)
+pub badge-dither-to-mode-unique : (q : mode.Commission) (was : mode.Buffers) (count tile : ℕ)
+    → Unique (λ (x : ℕ × mode.Buffers × ℕ × ℕ). x ≡ badgeDitherToMode q was count tile)
 badge-dither-to-mode-unique q was count tile = equal-only _

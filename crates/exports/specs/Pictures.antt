@@ -13,10 +13,11 @@ use Rattle.color.specs.Color.{rgba}
 use Rattle.drawing.specs.declared.ColorZero.{ColorZero}
 use Rattle.drawing.specs.declared.ColorZero.the-variants.{Absent, Is}
 use Rattle.drawing.specs.Lent.{cellsAfter}
-use Rattle.quantize.specs.Quantize.{Order, quantizing, numberFor, lengthsOf, indicesOf, pixelsOf}
+use Rattle.quantize.specs.Quantize as quantize
+use Rattle.quantize.specs.Quantize.{Commission, quantizing, indicesOf, pixelsOf}
 use Rattle.dither.specs.declared.Settings.{Settings}
 use Rattle.dither.specs.Mode as mode
-use Rattle.dither.specs.Mode.{Buffers, buffers, candidateList, tileOver, leaves}
+use Rattle.dither.specs.Mode.{Buffers, candidateList, tileOver, leaves, buffersAfter}
 
 -- ---- `badge_candidate_colors_in`: the number, the candidates' bytes and floats, and how many there are
 -- what is asked, from its parts
@@ -30,9 +31,9 @@ badgeCandidateColorsIn x count =
     (n, placesAfter x n, oklabAfter x n, after n (length (candidatesIn x)) count)
 
 -- ---- `badge_quantize_pixels`: the number, the indices, the picture and the cells
-abbrev pub badgeQuantizePixels : Order → (indices out : List ℕ) → List Float → ℕ × List ℕ × List ℕ × List Float
+abbrev pub badgeQuantizePixels : Commission → (indices out : List ℕ) → List Float → ℕ × List ℕ × List ℕ × List Float
 badgeQuantizePixels q indices out cells =
-    let n = numberFor (q .shift) (q .kind) (q .width) (q .height) (lengthsOf q indices out cells) in
+    let n = firstReply (quantize.replies q indices out cells) in
     (n, after n (indicesOf q) indices, after n (pixelsOf q) out, after n (cellsAfter (quantizing q) cells) cells)
 
 -- ---- `badge_dither_to_mode`: the number, the buffers, how many candidates there are, and the first tile over its limit
@@ -55,11 +56,7 @@ settingsOf shift kind width height originX originY tileWidth tileHeight limit ze
   zero = zero;
 }
 
--- the buffers after a number
-abbrev pub buffersAfter : ℕ → mode.Order → Buffers → Buffers
-buffersAfter n q was = buffers (mode.placesAfter n q (was .places)) (mode.oklabAfter n q (was .oklab)) (mode.outAfter n q (was .out)) (mode.cellsLeft n q (was .cells))
-
-abbrev pub badgeDitherToMode : mode.Order → Buffers → (count tile : ℕ) → ℕ × Buffers × ℕ × ℕ
+abbrev pub badgeDitherToMode : mode.Commission → Buffers → (count tile : ℕ) → ℕ × Buffers × ℕ × ℕ
 badgeDitherToMode q was count tile =
-    let n = mode.numberFor q was in
-    (n, buffersAfter n q was, leaves n (length (candidateList q)) (length (candidateList q)) count, leaves n tile (tileOver q) tile)
+    let n = firstReply (mode.replies q was) in
+    (n, buffersAfter q was n, leaves n (length (candidateList q)) (length (candidateList q)) count, leaves n tile (tileOver q) tile)

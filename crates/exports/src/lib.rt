@@ -20,12 +20,12 @@ use lookup::Second;
 use lookup::Two;
 use mixing::Width;
 use patterns::Thresholded;
-use quantize::Reply;
+use quantize::Quantization;
 ghost use mathlib.Core.Path.{_≡_};
 ghost use lib.ListN.{length};
 ghost use Rattle.color.specs.Color.{reducedAt, bytesOf};
 ghost use Rattle.dither.specs.Mode as mode;
-ghost use Rattle.quantize.specs.Quantize.{order};
+ghost use Rattle.quantize.specs.Quantize.{commission};
 ghost use Rattle.exports.specs.Answers.{badgeToOklab, badgeOklabSqdist, badgeOrderedThreshold, badgeBracketWidth, badgeLerp};
 ghost use Rattle.exports.specs.Lookups.{badgeNearest, secondPosition, badgeNearestTwo, badgeOrderedBracket, badgePick};
 ghost use Rattle.exports.specs.Pictures.{lentTo, badgeCandidateColorsIn, badgeQuantizePixels, zeroOf, settingsOf, badgeDitherToMode};
@@ -326,7 +326,7 @@ pub extern "C" fn badge_quantize_pixels(
     out: &mut [u8],
     cells: &mut [f32],
 ) -> u32
-    ensures { λ n. ⌜ (let q = order shift kind width height (now (reduction .entry)) (now (scale .entry)) (now (palette .entry)) (now (pixels .entry)) in
+    ensures { λ n. ⌜ (let q = commission shift kind width height (now (reduction .entry)) (now (scale .entry)) (now (palette .entry)) (now (pixels .entry)) in
         (n, now (indices .exit), now (out .exit), now (cells .exit)) ≡ badgeQuantizePixels q (now (indices .entry)) (now (out .entry)) (now (cells .entry))) ⌝ }
 {
     match quantize::quantize_pixels(
@@ -342,8 +342,8 @@ pub extern "C" fn badge_quantize_pixels(
         out,
         cells,
     ) {
-        Reply::Accepted => 0,
-        Reply::Refused(number) => number as u32,
+        Quantization::Accepted => 0,
+        Quantization::Refused(number) => number as u32,
     }
 }
 
@@ -384,7 +384,7 @@ pub extern "C" fn badge_dither_to_mode(
     count: &mut u32,
     tile: &mut u32,
 ) -> u32
-    ensures { λ n. ⌜ (let q = mode.order (settingsOf shift kind width height «origin_x» «origin_y» «tile_width» «tile_height» limit (zeroOf «has_zero» «zero_r» «zero_g» «zero_b» «zero_a»))
+    ensures { λ n. ⌜ (let q = mode.commission (settingsOf shift kind width height «origin_x» «origin_y» «tile_width» «tile_height» limit (zeroOf «has_zero» «zero_r» «zero_g» «zero_b» «zero_a»))
         (now (reduction .entry)) (now (scale .entry)) (now (pixels .entry)) in
         let was = mode.buffers (now (places .entry)) (now (oklab .entry)) (now (out .entry)) (now (cells .entry)) in
         let then = mode.buffers (now (places .exit)) (now (oklab .exit)) (now (out .exit)) (now (cells .exit)) in

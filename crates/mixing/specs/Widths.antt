@@ -3,7 +3,7 @@
 use Prim.Native.Nat.{ℕ, zero, suc, _+_, _*_, _/_, min, max}
 use mathlib.Core.Bool.{Bool, not, _||_}
 use mathlib.Core.List.{List, [], _∷_}
-use lib.Dec.{eqb, ltb}
+use lib.Dec.{eqb}
 use Rattle.replies.specs.Replies.{Reply, _if_, firstReply}
 use Rattle.replies.specs.Answers.{Answers}
 use Rattle.mixing.specs.declared.Width.{Width}
@@ -12,10 +12,6 @@ use Rattle.mixing.specs.declared.Width.the-variants.{Of, Refused}
 -- the shifts of the ported modes: 3, 4, 5
 unfoldable pub isShift : ℕ → Bool
 isShift shift = eqb shift 3 || (eqb shift 4 || eqb shift 5)
-
--- "kind above 10, or shift not 3, 4, 5"
-unfoldable pub modeWrong : ℕ → ℕ → Bool
-modeWrong kind shift = ltb 10 kind || not (isShift shift)
 
 -- a width, brought to 1..16
 abbrev pub clampWidth : ℕ → ℕ

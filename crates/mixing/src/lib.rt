@@ -5,7 +5,7 @@
 ghost use mathlib.Core.Path.{_≡_};
 ghost use mathlib.Core.Bool.{true};
 ghost use Rattle.floats.specs.Bytes.{dot};
-ghost use Rattle.mixing.specs.Widths.{isShift, modeWrong, clampWidth, widthOf, BracketWidthAnswered};
+ghost use Rattle.mixing.specs.Widths.{isShift, clampWidth, widthOf, BracketWidthAnswered};
 ghost use Rattle.mixing.specs.Lerp.{byteMinus, along, shareOf, clampOf, LerpAnswered, mixOf, mixResidual};
 use color::NormalizedColor;
 
@@ -25,13 +25,6 @@ pub fn is_shift(shift: u32) -> bool
     ensures { λ t. ⌜ t ≡ isShift shift ⌝ }
 {
     (shift == 3) | ((shift == 4) | (shift == 5))
-}
-
-// Whether there is no such kind of dithering, or no mode with that shift.
-pub fn mode_wrong(kind: u32, shift: u32) -> bool
-    ensures { λ t. ⌜ t ≡ modeWrong kind shift ⌝ }
-{
-    (10 < kind) | !is_shift(shift)
 }
 
 // A width, brought to 1..16.

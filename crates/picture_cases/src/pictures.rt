@@ -1,5 +1,5 @@
 // `quantize_pixels`: a case lends the recorded indices, pixels and cells, cut to their length, and compares them afterwards.
-use quantize::Reply;
+use quantize::Quantization;
 use recorded::ANY;
 use recorded::are_floats;
 use recorded::bytes_into;
@@ -15,10 +15,10 @@ fn lend(room: &[u8], indices: &mut [u8], out: &mut [u8], cells: &mut [f32]) -> b
     bytes_into(room, 8, indices) & (bytes_into(room, 9, out) & floats(room, 10, cells))
 }
 
-fn number_of(reply: Reply) -> u8 {
+fn number_of(reply: Quantization) -> u8 {
     match reply {
-        Reply::Accepted => 0,
-        Reply::Refused(number) => number,
+        Quantization::Accepted => 0,
+        Quantization::Refused(number) => number,
     }
 }
 

@@ -2,7 +2,5 @@
 pub mod Unique
 pub mod PixelLaws
 pub mod IndexLaws
-pub mod PaletteLaws
 pub mod FittingLaws
 pub mod DrawnLaws
-mod FinishLaws

@@ -1,25 +1,22 @@
 // Quantizing a picture to a palette: `quantize_pixels` of src/dither.rs. The picture is drawn into the lent pixels as
-// reduced colours; then each pixel gets its index and its full precision form.
-use color::NormalizedColor;
-use color::Oklab;
+// reduced colours; from these each pixel gets its index; then they are finished.
 use color::ReducedColor;
 use drawing::ColorZero;
 use drawing::Ditherer;
 ghost use mathlib.Core.Path.{_≡_};
 ghost use mathlib.Core.Bool.{true};
-ghost use Prim.Native.Nat.{_+_, _*_, _<_, _≤_};
-ghost use lib.Dec.{T};
+ghost use Prim.Native.Nat.{_*_, _<_, _≤_};
 ghost use lib.ListN.{length};
-ghost use Rattle.color.specs.Oklab.{allInRange};
-ghost use Rattle.conversion.specs.Linear.{values};
-ghost use Rattle.conversion.specs.Oklab.{toOklab};
-ghost use Rattle.shortlist.specs.Candidates.{normals};
+ghost use Rattle.replies.specs.Replies.{firstReply};
+ghost use Rattle.color.specs.Color.{reducedAt};
+ghost use Rattle.picture.specs.Pixels.{reducedBy};
 ghost use Rattle.drawing.specs.Lent.{cellsAfter};
-ghost use Rattle.quantize.specs.Quantize.{order, quantizing, indexOf, finished, indexBytes, colorBytes, indicesOf, pixelsOf, lengthsOf, lengthsWrong, entriesWrong, numberFor, Quantized};
-ghost use Rattle.quantize.specs.Steps.{finishedAt, Fitting, Choices, Converted};
+ghost use Rattle.quantize.specs.Quantize.{commission, quantizing, indexOf, indexFor, indexBytes, indicesOf, pixelsOf};
+ghost use Rattle.quantize.specs.Quantize.{lengthsOf, lengthsWrong, entriesWrong, checks, Quantized};
+ghost use Rattle.quantize.specs.Steps.{Fitting, Indexable};
 
 // What `quantize_pixels` answers.
-pub enum Reply {
+pub enum Quantization {
     Accepted,
     Refused(u8),
 }
@@ -35,12 +32,6 @@ pub struct Lengths {
     pub cells: usize,
 }
 
-// What becomes of a pixel.
-pub struct Pixel {
-    pub index: u8,
-    pub color: NormalizedColor,
-}
-
 // ---- refusals
 
 // Whether a lent length is wrong. No public call: the caller sees to the size.
@@ -48,13 +39,10 @@ fn lengths_wrong(kind: u32, size: usize, s: Lengths) -> bool
     requires { ⌜ size ≤ 1048576 ⌝ }
     ensures { λ t. ⌜ t ≡ lengthsWrong kind size s ⌝ }
 {
-    picture::table_wrong(s.reduction)
-        | (picture::table_wrong(s.scale)
-            | ((s.palette % 4 != 0)
-                | ((s.pixels != 4 * size)
-                    | ((s.indices != size)
-                        | ((s.out != 4 * size)
-                            | (s.cells != patterns::cells_needed(kind, size)))))))
+    picture::lent_wrong(s.reduction, s.scale, s.pixels, size)
+        | ((s.palette % 4 != 0)
+            | ((s.indices != size)
+                | ((s.out != 4 * size) | (s.cells != patterns::cells_needed(kind, size)))))
 }
 
 // Whether the palette has not 1 to 256 entries.
@@ -66,9 +54,9 @@ fn entries_wrong(count: usize) -> bool
 
 // The number of the answer: 0 where the picture is accepted, else the lowest that applies.
 fn refusal(shift: u32, kind: u32, width: u32, height: u32, s: Lengths) -> u8
-    ensures { λ n. ⌜ n ≡ numberFor shift kind width height s ⌝ }
+    ensures { λ n. ⌜ n ≡ firstReply (checks shift kind width height s) ⌝ }
 {
-    if mixing::mode_wrong(kind, shift) {
+    if !patterns::is_kind(kind) | !mixing::is_shift(shift) {
         return 1;
     }
     if picture::size_wrong(width, height) {
@@ -84,32 +72,7 @@ fn refusal(shift: u32, kind: u32, width: u32, height: u32, s: Lengths) -> u8
     0
 }
 
-// ---- the palette
-
-// The Oklab colour of palette entry k. No public call: the caller sees to the tables and the entry.
-fn entry_oklab(linear: &[u64; 256], palette: &[u8], scale: &[u8], k: usize) -> Oklab
-    requires { ⌜ (now linear ≡ values) × (length (now scale) ≡ 256) × (4 * k + 3 < length (now palette)) ⌝ }
-    ensures { λ o. ⌜ (o ≡ toOklab (normals (now (palette .entry)) (now (scale .entry)) k)) × T (allInRange o) ⌝ }
-{
-    let reduced = ReducedColor(color::rgba_at(palette, k));
-    conversion::to_oklab_with(linear, color::normalize_color(scale, reduced))
-}
-
-// Writes the Oklab colours of the palette's entries to the front of a room. No public call: the caller sees to the
-// tables, the entries and the room.
-fn put_palette(linear: &[u64; 256], palette: &[u8], scale: &[u8], count: usize, room: &mut [f32])
-    requires { ⌜ (now linear ≡ values) × (length (now scale) ≡ 256) × (4 * count ≤ length (now palette)) × (3 * count ≤ length (now room)) ⌝ }
-    ensures { λ _. ⌜ Converted (now (palette .entry)) (now (scale .entry)) count (now (room .exit)) ⌝ }
-{
-    let mut k = 0;
-    while k < count {
-        let o = entry_oklab(linear, palette, scale, k);
-        color::put_oklab(room, k, o);
-        k += 1;
-    }
-}
-
-// ---- from reduced colours to indices and full precision
+// ---- the index of a choice
 
 // The first palette entry equal to a colour, or their number where none is. No public call: the caller sees to the
 // entries.
@@ -127,44 +90,38 @@ fn index_of(palette: &[u8], count: usize, c: ReducedColor) -> usize
     index
 }
 
-// What becomes of a pixel that chose a colour. No public call: the caller sees to the table and the entries, and that an
-// opaque pixel's choice is one of the first 256.
-fn finish_pixel(palette: &[u8], scale: &[u8], count: usize, opaque: bool, c: ReducedColor) -> Pixel
-    requires { ⌜ (length (now scale) ≡ 256) × (4 * count ≤ length (now palette)) × (opaque ≡ true → indexOf (now palette) count c < 256) ⌝ }
-    ensures { λ p. ⌜ p ≡ finished (now (palette .entry)) (now (scale .entry)) count opaque c ⌝ }
+// The index of a pixel that chose a colour. No public call: the caller sees to the entries, and that the choice of a pixel
+// that is seen is one of the first 256.
+fn pixel_index(palette: &[u8], count: usize, seen: bool, c: ReducedColor) -> u8
+    requires { ⌜ (4 * count ≤ length (now palette)) × (seen ≡ true → indexOf (now palette) count c < 256) ⌝ }
+    ensures { λ k. ⌜ k ≡ indexFor (now (palette .entry)) count seen c ⌝ }
 {
-    if opaque {
-        let index = index_of(palette, count, c) as u8;
-        let color = color::normalize_color(scale, c);
-        return Pixel { index, color };
+    if seen {
+        return index_of(palette, count, c) as u8;
     }
-    Pixel {
-        index: 0,
-        color: NormalizedColor::TRANSPARENT,
-    }
+    0
 }
 
-// Gives each pixel its index, and its full precision form in the place of its reduced one. No public call: the caller
-// sees to the lengths and the choices.
-fn finish(
-    size: usize,
+// Gives each pixel its index, from the reduced choices that are lent. No public call: the caller sees to the lengths and the
+// choices.
+fn put_indices(
+    reduction: &[u8],
     palette: &[u8],
-    scale: &[u8],
     count: usize,
     pixels: &[u8],
+    chosen: &[u8],
+    size: usize,
     indices: &mut [u8],
-    out: &mut [u8],
 )
-    requires { ⌜ Choices (now palette) (now scale) count size (now pixels) (now out) × (length (now indices) ≡ size) ⌝ }
-    ensures { λ _. ⌜ (let pixel = finishedAt (now (palette .entry)) (now (scale .entry)) count (now (pixels .entry)) (now (out .entry)) in
-        (now (indices .exit) ≡ indexBytes pixel size) × (now (out .exit) ≡ colorBytes pixel size)) ⌝ }
+    requires { ⌜ Indexable (now reduction) (now palette) count (now pixels) (now chosen) size × (length (now indices) ≡ size) ⌝ }
+    ensures { λ _. ⌜ (let reduced = reducedBy (now (reduction .entry)) (now (pixels .entry)) in
+        now (indices .exit) ≡ indexBytes (now (palette .entry)) count reduced (reducedAt (now (chosen .entry))) size) ⌝ }
 {
     let mut i = 0;
     while i < size {
-        let chosen = ReducedColor(color::rgba_at(out, i));
-        let p = finish_pixel(palette, scale, count, picture::is_opaque(pixels, i), chosen);
-        indices[i] = p.index;
-        color::put_rgba(out, i, p.color.0);
+        let seen = picture::is_seen(reduction, pixels, i);
+        let c = ReducedColor(color::rgba_at(chosen, i));
+        indices[i] = pixel_index(palette, count, seen, c);
         i += 1;
     }
 }
@@ -187,14 +144,14 @@ fn quantize(
     out: &mut [u8],
     cells: &mut [f32],
 )
-    requires { ⌜ (let q = order shift kind width height (now reduction) (now scale) (now palette) (now pixels) in
+    requires { ⌜ (let q = commission shift kind width height (now reduction) (now scale) (now palette) (now pixels) in
         Fitting q (lengthsOf q (now indices) (now out) (now cells)) × (length (now room) ≡ 768)) ⌝ }
-    ensures { λ _. ⌜ (let q = order shift kind width height (now (reduction .entry)) (now (scale .entry)) (now (palette .entry)) (now (pixels .entry)) in
+    ensures { λ _. ⌜ (let q = commission shift kind width height (now (reduction .entry)) (now (scale .entry)) (now (palette .entry)) (now (pixels .entry)) in
         (now (indices .exit) ≡ indicesOf q) × (now (out .exit) ≡ pixelsOf q) × (now (cells .exit) ≡ cellsAfter (quantizing q) (now (cells .entry)))) ⌝ }
 {
     let count = palette.len() / 4;
     let linear = conversion::linear::linear_table();
-    put_palette(&linear, palette, scale, count, room);
+    conversion::list::put_list_oklab(&linear, scale, palette, count, room);
     let ditherer = Ditherer {
         kind,
         origin_x: 0,
@@ -216,7 +173,8 @@ fn quantize(
         cells,
     );
     let size = width as usize * height as usize;
-    finish(size, palette, scale, count, pixels, indices, out);
+    put_indices(reduction, palette, count, pixels, out, size, indices);
+    drawing::finish(reduction, scale, pixels, size, out);
 }
 
 // Quantizes a picture to a palette: each pixel's palette index, and its colour at full precision. On a refusal all
@@ -233,8 +191,8 @@ pub fn quantize_pixels(
     indices: &mut [u8],
     out: &mut [u8],
     cells: &mut [f32],
-) -> Reply
-    ensures { λ r. ⌜ Quantized (order shift kind width height (now (reduction .entry)) (now (scale .entry)) (now (palette .entry)) (now (pixels .entry)))
+) -> Quantization
+    ensures { λ r. ⌜ Quantized (commission shift kind width height (now (reduction .entry)) (now (scale .entry)) (now (palette .entry)) (now (pixels .entry)))
         (now (indices .entry)) (now (out .entry)) (now (cells .entry)) r (now (indices .exit)) (now (out .exit)) (now (cells .exit)) ⌝ }
 {
     let lengths = Lengths {
@@ -248,7 +206,7 @@ pub fn quantize_pixels(
     };
     let number = refusal(shift, kind, width, height, lengths);
     if number != 0 {
-        return Reply::Refused(number);
+        return Quantization::Refused(number);
     }
     let mut room = [0.0f32; 768];
     quantize(
@@ -265,5 +223,5 @@ pub fn quantize_pixels(
         out,
         cells,
     );
-    Reply::Accepted
+    Quantization::Accepted
 }

@@ -5,15 +5,15 @@ use native.Mathlib.Omega.{arith}
 use lib.ListN.{getD, take, length-take}
 use Rattle.drawing.specs.Drawing.{Drawing}
 use Rattle.drawing.specs.Lent.{drawingOf, reducedBytes, cellsAfter}
-use Rattle.dither.specs.Mode.{Order, order, dithererOf, lentOf, dithering}
+use Rattle.dither.specs.Mode.{Commission, commission, dithererOf, lentOf, dithering}
 use Rattle.dither.proofs.DrawnLaws.{same-picture, ready}
 use borrow.Author.Needs.{needs}
 use Rattle.dither.proofs.choose.Statement.{statement}
 use Rattle.dither.proofs.choose.Tie as tie
 
 -- what was asked for, and lent
-abbrev asked : tie.Start → Order
-asked s = let a = s .args in order (a .s) (a .reduction .now) (a .scale .now) (a .pixels .now)
+abbrev asked : tie.Start → Commission
+asked s = let a = s .args in commission (a .s) (a .reduction .now) (a .scale .now) (a .pixels .now)
 
 -- where the drawing is called
 abbrev start : tie.After-draw-arg2 → tie.Start
@@ -22,7 +22,9 @@ start c = c .before .before .before .before .before .before .before .before .bef
 -- the picture that is drawn is the one that is promised
 same : (c : tie.After-draw-arg2)
     → let s = start c in let n = s .args .count in
-    drawingOf (dithererOf (s .args .s) (c .before .before .before .before .width-of .result)) (s .args .s .zero) (lentOf (asked s) (take (4 * n) (s .args .places .now)) (take (3 * n) (s .args .oklab .now)) n) ≡ dithering (asked s)
+    drawingOf (dithererOf (s .args .s) (c .before .before .before .before .width-of .result)) (s .args .s .zero)
+    (lentOf (asked s) (take (4 * n) (s .args .places .now)) (take (3 * n) (s .args .oklab .now)) n)
+    ≡ dithering (asked s)
 same c = same-picture (asked (start c)) (start c .pre .1) _ (c .before .before .before .before .width-of .ensures)
 
 cast-width-of : tie.Need-cast-width-of
@@ -47,8 +49,9 @@ draw-requires : tie.Need-draw-requires
 draw-requires c κs =
     let s = start c in
     let f = s .pre .0 in
-    let reduces : (k : ℕ) → getD (s .args .reduction .now) k 0 < 256 = λ k. omega (arith, c .before .before .before .before .before .before .before .before .before .before .before .before .shared-slice-known .given k) in
-    let scales : (k : ℕ) → getD (s .args .scale .now) k 0 < 256 = λ k. omega (arith, c .before .before .before .before .before .before .before .before .before .before .before .shared-slice-known2 .given k) in
+    let read = c .before .before .before .before .before .before .before .before .before .before .before in
+    let reduces : (k : ℕ) → getD (s .args .reduction .now) k 0 < 256 = λ k. omega (arith, read .before .shared-slice-known .given k) in
+    let scales : (k : ℕ) → getD (s .args .scale .now) k 0 < 256 = λ k. omega (arith, read .shared-slice-known2 .given k) in
     (ready (asked s) (s .pre .1) f (c .before .before .before .before .width-of .result) reduces scales, f .out-long, f .cells-long)
 
 same-length : tie.Need-same-length

@@ -4,8 +4,9 @@ use Prim.Native.Nat.{ℕ}
 use native.Mathlib.Omega.{arith}
 use lib.ListN.{length, replicate}
 use lib.Ieee.{ofBits, binary32}
-use Rattle.dither.specs.Mode.{Order, order}
-use Rattle.dither.proofs.DrawnLaws.{at, judgeable, finishable, finished-all}
+use Rattle.drawing.proofs.FinishedLaws.{finished-all}
+use Rattle.dither.specs.Mode.{Commission, commission, dithering}
+use Rattle.dither.proofs.DrawnLaws.{at, judgeable, finishable}
 use Rattle.dither.proofs.BudgetLaws.{verdict, judged-over, judged-fits, judged-bytes}
 use Rattle.dither.proofs.CallLaws.{completed-over, completed}
 use borrow.Author.Needs.{needs}
@@ -13,8 +14,8 @@ use Rattle.dither.proofs.dither.Statement.{statement}
 use Rattle.dither.proofs.dither.Tie as tie
 
 -- what was asked for, and lent
-abbrev asked : tie.Start → Order
-asked s = let a = s .args in order (a .s) (a .reduction .now) (a .scale .now) (a .pixels .now)
+abbrev asked : tie.Start → Commission
+asked s = let a = s .args in commission (a .s) (a .reduction .now) (a .scale .now) (a .pixels .now)
 
 -- where the choices are made
 abbrev start : tie.After-choose → tie.Start
@@ -59,23 +60,24 @@ returns c =
     let s = start k in
     let out : length (k .choose .last .1 .1 .1 .1 .1 .1 .1 .0) ≡ length (s .args .out .now) = omega arith in
     let cells : length (k .choose .last .1 .1 .1 .1 .1 .1 .1 .1 .0) ≡ length (s .args .cells .now) = omega arith in
-    completed-over (asked s) (s .pre .1 .counted) _ (judged-over (asked s) (judged j) _ (c .before .before .before .before .before .before .before .before .verdict .given .1))
+    let over = c .before .before .before .before .before .before .before .before .verdict .given .1 in
+    completed-over (asked s) (s .pre .1 .counted) _ (judged-over (asked s) (judged j) _ over)
     (w .0 ∙ ap (λ (n : ℕ). replicate n 0) out) (w .1 ∙ ap (λ (n : ℕ). replicate n (ofBits binary32 0)) cells)
 
 enum-told : tie.Need-enum-told
 enum-told c = search needs
 
-cast-normalize : tie.Need-cast-normalize
-cast-normalize c = search needs
+cast-size : tie.Need-cast-size
+cast-size c = search needs
 
-cast-normalize-2 : tie.Need-cast-normalize-2
-cast-normalize-2 c = search needs
+cast-size-2 : tie.Need-cast-size-2
+cast-size-2 c = search needs
 
-mul-normalize : tie.Need-mul-normalize
-mul-normalize c = let h = start (c .before .before .before .before .before .before .before .before .before .before) .pre .0 .small in omega arith
+mul-size : tie.Need-mul-size
+mul-size c = let h = start (c .before .before .before .before .before .before .before .before .before .before) .pre .0 .small in omega arith
 
-normalize-requires : tie.Need-normalize-requires
-normalize-requires c κs =
+finish-requires : tie.Need-finish-requires
+finish-requires c κs =
     let k = c .before .before .before .before .before .before .before .before .before .before .before in
     let s = start k in
     finishable (asked s) (s .pre .0) _ (k .choose .ensures .0)
@@ -93,7 +95,7 @@ returns-2 c =
     let k = c .before .before .before .before .before .before .before .before .before .before .before .before .before .before in
     let s = start k in
     completed (asked s) (s .pre .1 .counted) (judged-fits (asked s) (judged j) (t .enum-told .given .1))
-    (c .before .before .normalize .ensures ∙ finished-all (asked s) (s .pre .0) _ (k .choose .ensures .0)) (k .choose .ensures .1)
+    (c .before .before .finish .ensures ∙ finished-all (dithering (asked s)) _ (k .choose .ensures .0)) (k .choose .ensures .1)
 
 pub dither-spec : {M : Type 1} → statement M
 dither-spec =
@@ -108,10 +110,10 @@ dither-spec =
     same-length-2
     returns
     enum-told
-    cast-normalize
-    cast-normalize-2
-    mul-normalize
-    normalize-requires
+    cast-size
+    cast-size-2
+    mul-size
+    finish-requires
     same-length-3
     same-length-4
     returns-2)

@@ -4,7 +4,7 @@ use mathlib.Core.Path.{_≡_, sym, _∙_}
 use native.Mathlib.Omega.{arith}
 use Rattle.replies.specs.Replies.{firstReply}
 use Rattle.candidates.proofs.RoomLaws.{count-within}
-use Rattle.dither.specs.Mode.{Order, Buffers, order, buffers, candidateList, lengthsOf, checks}
+use Rattle.dither.specs.Mode.{Commission, Buffers, commission, buffers, candidateList, lengthsOf, checks}
 use Rattle.dither.proofs.NumberLaws.{accepted, room}
 use Rattle.dither.proofs.CandidateLaws.{collected, uncollected, roomed}
 use Rattle.dither.proofs.CallLaws.{call-refused, call-full, call-completed}
@@ -13,8 +13,8 @@ use Rattle.dither.proofs.dither_to_mode.Statement.{statement}
 use Rattle.dither.proofs.dither_to_mode.Tie as tie
 
 -- what was asked for, and lent to be read; and what was lent to be written
-abbrev asked : tie.Start → Order
-asked s = let a = s .args in order (a .settings) (a .reduction .now) (a .scale .now) (a .pixels .now)
+abbrev asked : tie.Start → Commission
+asked s = let a = s .args in commission (a .settings) (a .reduction .now) (a .scale .now) (a .pixels .now)
 
 abbrev held : tie.Start → Buffers
 held s = let a = s .args in buffers (a .places .now) (a .oklab .now) (a .out .now) (a .cells .now)
@@ -30,7 +30,9 @@ refusal-requires : tie.Need-refusal-requires
 refusal-requires c κs = search needs
 
 returns : tie.Need-returns
-returns c = let s = c .before .before .before .before .before .before .before .before .before in call-refused (asked s) (held s) (c .before .refusal .ensures) (c .if1 .taken)
+returns c =
+    let s = c .before .before .before .before .before .before .before .before .before in
+    call-refused (asked s) (held s) (c .before .refusal .ensures) (c .if1 .taken)
 
 cast-size : tie.Need-cast-size
 cast-size c = search needs
@@ -97,7 +99,8 @@ returns-3 c =
     let a = d .before in
     let e = a .before .before .before .before .before .before .before .before .before .before .before .before .before .before .before .before in
     let s = start e in
-    let u = collected (a .before .before .before .before .before .before .before .before .before .before .before .collect-candidates .ensures) _ (a .before .before .before .before .before .count .given .1) in
+    let k = a .before .before .before .before .before .before .before .before .before .before .before .collect-candidates .ensures in
+    let u = collected k _ (a .before .before .before .before .before .count .given .1) in
     call-completed (asked s) (held s) (free e) (u .0) (u .2) (u .3) (d .dither .ensures)
 
 pub dither-to-mode-spec : {M : Type 1} → statement M

@@ -1,40 +1,48 @@
 -- `dither::refusal` meets its contract: the tests are the definition's, in the order of the numbers. Assumes nothing.
 use mathlib.Core.Path.{_≡_, sym, _∙_}
-use mathlib.Core.Bool.{false}
+use mathlib.Core.Bool.{Bool, false, not, _||_}
 use Prim.Native.Nat.{_*_, _≤_}
 use native.Mathlib.Omega.{arith}
-use Rattle.mixing.specs.Widths.{modeWrong}
+use Rattle.patterns.specs.Kinds.{isKind}
+use Rattle.mixing.specs.Widths.{isShift}
 use Rattle.dither.specs.Mode.{boundsWrong, lengthsWrong}
 use Rattle.dither.proofs.NumberLaws.{bounded}
 use borrow.Author.Needs.{needs}
 use Rattle.dither.proofs.refusal.Statement.{statement}
 use Rattle.dither.proofs.refusal.Tie as tie
 
--- past each test, what it asks is not so
-mode-right : (c : tie.Else1) → modeWrong (c .before .before .args .s .kind) (c .before .before .args .s .shift) ≡ false
-mode-right c = sym (c .before .mode-wrong .ensures) ∙ c .if1 .left
+-- what the first test asks
+mode-is : (c : tie.After-is-shift) (t : Bool) → not (c .before .is-kind .result) || not (c .is-shift .result) ≡ t
+    → not (isKind (c .before .before .args .s .kind)) || not (isShift (c .before .before .args .s .shift)) ≡ t
+mode-is c t e = (λ i. not (sym (c .before .is-kind .ensures) i) || not (sym (c .is-shift .ensures) i)) ∙ e
 
-bounds-right : (c : tie.Else2) → boundsWrong (c .before .before .before .before .args .s) ≡ false
+-- past each test, what it asks is not so
+bounds-right : (c : tie.Else2) → boundsWrong (c .before .before .before .before .before .args .s) ≡ false
 bounds-right c = sym (c .before .bounds-wrong .ensures) ∙ c .if2 .left
 
-small : (c : tie.Else2) → c .before .before .before .before .args .s .width * c .before .before .before .before .args .s .height ≤ 1048576
+small : (c : tie.Else2) → let s = c .before .before .before .before .before .args .s in s .width * s .height ≤ 1048576
 small c = bounded _ (bounds-right c)
 
-lengths-right : (c : tie.Else3) → let a = c .before .before .before .before .before .before .before .before .args in
+lengths-right : (c : tie.Else3) → let a = c .before .before .before .before .before .before .before .before .before .args in
     lengthsWrong (a .s .kind) (a .s .width * a .s .height) (a .lengths) ≡ false
 lengths-right c = sym (c .before .lengths-wrong .ensures) ∙ c .if3 .left
 
-mode-wrong-requires : tie.Need-mode-wrong-requires
-mode-wrong-requires c κs = search needs
+is-kind-requires : tie.Need-is-kind-requires
+is-kind-requires c κs = search needs
+
+is-shift-requires : tie.Need-is-shift-requires
+is-shift-requires c κs = search needs
 
 returns : tie.Need-returns
-returns c = rw (sym (c .before .mode-wrong .ensures) ∙ c .if1 .taken)
+returns c = rw (mode-is (c .before) _ (c .if1 .taken))
 
 bounds-wrong-requires : tie.Need-bounds-wrong-requires
 bounds-wrong-requires c κs = search needs
 
 returns-2 : tie.Need-returns-2
-returns-2 c = rw (mode-right (c .before .before), sym (c .before .bounds-wrong .ensures) ∙ c .if2 .taken)
+returns-2 c =
+    let m = c .before .before in
+    rw (mode-is (m .before) _ (m .if1 .left), sym (c .before .bounds-wrong .ensures) ∙ c .if2 .taken)
 
 cast-size : tie.Need-cast-size
 cast-size c = search needs
@@ -49,7 +57,10 @@ lengths-wrong-requires : tie.Need-lengths-wrong-requires
 lengths-wrong-requires c κs = small (c .before .before)
 
 returns-3 : tie.Need-returns-3
-returns-3 c = let k = c .before .before .before .before in rw (mode-right (k .before .before), bounds-right k, sym (c .before .lengths-wrong .ensures) ∙ c .if3 .taken)
+returns-3 c =
+    let k = c .before .before .before .before in
+    let m = k .before .before in
+    rw (mode-is (m .before) _ (m .if1 .left), bounds-right k, sym (c .before .lengths-wrong .ensures) ∙ c .if3 .taken)
 
 budget-wrong-requires : tie.Need-budget-wrong-requires
 budget-wrong-requires c κs = search needs
@@ -58,19 +69,22 @@ returns-4 : tie.Need-returns-4
 returns-4 c =
     let k = c .before .before in
     let j = k .before .before .before .before in
-    rw (mode-right (j .before .before), bounds-right j, lengths-right k, sym (c .before .budget-wrong .ensures) ∙ c .if4 .taken)
+    let m = j .before .before in
+    rw (mode-is (m .before) _ (m .if1 .left), bounds-right j, lengths-right k, sym (c .before .budget-wrong .ensures) ∙ c .if4 .taken)
 
 returns-5 : tie.Need-returns-5
 returns-5 c =
     let k = c .before .before in
     let j = k .before .before .before .before in
-    rw (mode-right (j .before .before), bounds-right j, lengths-right k, sym (c .before .budget-wrong .ensures) ∙ c .if4 .left)
+    let m = j .before .before in
+    rw (mode-is (m .before) _ (m .if1 .left), bounds-right j, lengths-right k, sym (c .before .budget-wrong .ensures) ∙ c .if4 .left)
 
 pub refusal-spec : {M : Type 1} → statement M
 refusal-spec =
     tie.close
     (tie.spec
-    mode-wrong-requires
+    is-kind-requires
+    is-shift-requires
     returns
     bounds-wrong-requires
     returns-2

@@ -2,7 +2,7 @@
 use mathlib.Core.Path.{_≡_, subst}
 use Rattle.drawing.specs.declared.ColorZero.{ColorZero}
 use Rattle.dither.specs.declared.Dithered.{Dithered}
-use Rattle.dither.specs.Mode.{Order, order, Buffers, buffers, DitheredToMode}
+use Rattle.dither.specs.Mode.{Commission, commission, Buffers, buffers, DitheredToMode}
 use Rattle.exports.specs.Pictures.{zeroOf, settingsOf, badgeDitherToMode}
 use Rattle.exports.proofs.PictureLaws.{telling, mode-by-case}
 use borrow.Author.Needs.{needs}
@@ -14,10 +14,10 @@ module _ (d : tie.After-dither-to-mode) where
   abbrev s : tie.Start
   s = d .before .before .before .before .before .before .before .before .before .before .before .before .before
 
-  abbrev asked : ColorZero → Order
+  abbrev asked : ColorZero → Commission
   asked zero =
       let a = s .args in
-      order (settingsOf (a .shift) (a .kind) (a .width) (a .height) (a .origin-x) (a .origin-y) (a .tile-width) (a .tile-height) (a .limit) zero) (a .reduction .now) (a .scale .now) (a .pixels .now)
+      commission (settingsOf (a .shift) (a .kind) (a .width) (a .height) (a .origin-x) (a .origin-y) (a .tile-width) (a .tile-height) (a .limit) zero) (a .reduction .now) (a .scale .now) (a .pixels .now)
 
   abbrev was : Buffers
   was = buffers (s .args .places .now) (s .args .oklab .now) (s .args .out .now) (s .args .cells .now)

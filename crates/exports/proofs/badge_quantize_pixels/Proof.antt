@@ -1,13 +1,13 @@
 -- `exports::badge_quantize_pixels` meets its contract: the answer's case decides the number. Assumes nothing.
-use Rattle.quantize.specs.Quantize.{Order, order}
+use Rattle.quantize.specs.Quantize.{Commission, commission}
 use Rattle.exports.proofs.PictureLaws.{quantized-by-case}
 use borrow.Author.Needs.{needs}
 use Rattle.exports.proofs.badge_quantize_pixels.Statement.{statement}
 use Rattle.exports.proofs.badge_quantize_pixels.Tie as tie
 
 -- what is asked for
-abbrev asked : tie.Start → Order
-asked s = let a = s .args in order (a .shift) (a .kind) (a .width) (a .height) (a .reduction .now) (a .scale .now) (a .palette .now) (a .pixels .now)
+abbrev asked : tie.Start → Commission
+asked s = let a = s .args in commission (a .shift) (a .kind) (a .width) (a .height) (a .reduction .now) (a .scale .now) (a .palette .now) (a .pixels .now)
 
 quantize-pixels-requires : tie.Need-quantize-pixels-requires
 quantize-pixels-requires c κs = search needs

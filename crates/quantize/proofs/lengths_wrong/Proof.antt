@@ -1,20 +1,14 @@
--- `quantize::lengths_wrong` meets its contract: its seven tests are the definition's. Assumes nothing.
+-- `quantize::lengths_wrong` meets its contract: its five tests are the definition's. Assumes nothing.
 use borrow.Author.Needs.{needs}
 use Rattle.quantize.specs.Quantize.{lengthsWrong}
 use Rattle.quantize.proofs.lengths_wrong.Statement.{statement}
 use Rattle.quantize.proofs.lengths_wrong.Tie as tie
 
-table-wrong-requires : tie.Need-table-wrong-requires
-table-wrong-requires c κs = search needs
-
-table-wrong-requires-2 : tie.Need-table-wrong-requires-2
-table-wrong-requires-2 c κs = search needs
+lent-wrong-requires : tie.Need-lent-wrong-requires
+lent-wrong-requires c κs = search needs
 
 mul-result : tie.Need-mul-result
 mul-result c = search needs
-
-mul-result-2 : tie.Need-mul-result-2
-mul-result-2 c = search needs
 
 cells-needed-requires : tie.Need-cells-needed-requires
 cells-needed-requires c κs = search needs
@@ -24,12 +18,4 @@ unfolding lengthsWrong
 returns c = cc
 
 pub lengths-wrong-spec : {M : Type 1} → statement M
-lengths-wrong-spec =
-    tie.close
-    (tie.spec
-    table-wrong-requires
-    table-wrong-requires-2
-    mul-result
-    mul-result-2
-    cells-needed-requires
-    returns)
+lengths-wrong-spec = tie.close (tie.spec lent-wrong-requires mul-result cells-needed-requires returns)

@@ -1,37 +1,66 @@
--- `quantize::quantize` meets its contract: the palette's Oklab, the drawn picture, and the pass over its pixels. Assumes nothing.
-use mathlib.Core.Path.{_≡_, _∙_, ap}
-use Prim.Native.Nat.{_*_}
-use lib.ListN.{take}
+-- `quantize::quantize` meets its contract: the palette's Oklab, the drawn picture, the indices of its choices, and the choices finished. Assumes nothing.
+use mathlib.Core.Path.{_≡_, sym, _∙_, ap}
+use Prim.Native.Nat.{ℕ, _*_, _<_}
+use native.Mathlib.Omega.{arith}
+use lib.ListN.{length, getD, take}
+use Rattle.color.specs.Color.{reducedAt}
+use Rattle.conversion.proofs.ListLaws.{list-long, list-front}
+use Rattle.shortlist.specs.Candidates.{RangedList}
 use Rattle.drawing.specs.declared.ColorZero.the-variants.{Absent}
 use Rattle.drawing.specs.Drawing.{Drawing}
 use Rattle.drawing.specs.Lent.{drawingOf, reducedBytes, cellsAfter}
-use Rattle.quantize.specs.Quantize.{Order, order, entries, dithererOf, lentOf, quantizing}
-use Rattle.quantize.proofs.PaletteLaws.{front-long}
-use Rattle.quantize.proofs.DrawnLaws.{ready, choices, finished-all}
+use Rattle.drawing.proofs.CandidateLaws.{list-fit}
+use Rattle.drawing.proofs.FinishedLaws.{finished-all}
+use Rattle.quantize.specs.Quantize.{Commission, commission, entries, paletteOklab, dithererOf, lentOf, quantizing}
+use Rattle.quantize.proofs.DrawnLaws.{ready, indexable, finishable, indexed-all}
 use borrow.Author.Needs.{needs}
 use Rattle.quantize.proofs.quantize.Statement.{statement}
 use Rattle.quantize.proofs.quantize.Tie as tie
 
 -- what was asked for, and lent
-abbrev asked : tie.Start → Order
-asked s = let a = s .args in order (a .shift) (a .kind) (a .width) (a .height) (a .reduction .now) (a .scale .now) (a .palette .now) (a .pixels .now)
+abbrev asked : tie.Start → Commission
+asked s =
+    let a = s .args in
+    commission (a .shift) (a .kind) (a .width) (a .height) (a .reduction .now) (a .scale .now) (a .palette .now) (a .pixels .now)
+
+-- where the palette's Oklab is made, and the room's front is that
+abbrev began : tie.After-put-list-oklab → tie.Start
+began c = c .before .before .before .before .before .before .before .before .before .before .before .before
+
+front : (c : tie.After-put-list-oklab)
+    → let q = asked (began c) in take (3 * entries q) (c .put-list-oklab .last .1 .1 .1 .1 .0) ≡ paletteOklab q
+front c =
+    let q = asked (began c) in
+    ap (take (3 * entries q)) (c .put-list-oklab .ensures) ∙ list-front (q .scale) (reducedAt (q .palette)) (entries q) _
+
+fit : (c : tie.After-put-list-oklab) → let q = asked (began c) in RangedList (paletteOklab q) (entries q)
+fit c =
+    let q = asked (began c) in
+    let read = c .before .before .before .before .before .before .before .before .before .before in
+    let bytes : (k : ℕ) → getD (q .scale) k 0 < 256 = λ k. omega (arith, read .shared-slice-known2 .given k) in
+    list-fit (q .scale) (reducedAt (q .palette)) (entries q) bytes
 
 -- where the drawing is called
-abbrev start : tie.After-draw-arg2 → tie.Start
-start c = c .before .before .before .before .before .before .before .before .before .before .before .before .before .before .before .before .before .before
+abbrev listed : tie.After-draw-arg2 → tie.After-put-list-oklab
+listed c = c .before .before .before .before .before .before
 
 -- the picture that is drawn is the one that is promised
-same-picture : (c : tie.After-draw-arg2) → drawingOf (dithererOf (asked (start c)) (c .before .before .before .width-of .result)) Absent (lentOf (asked (start c)) (take (3 * entries (asked (start c))) (c .before .before .before .before .before .before .put-palette .last .1 .1 .1 .1 .0))) ≡ quantizing (asked (start c))
-same-picture c = λ t. drawingOf (dithererOf (asked (start c)) (c .before .before .before .width-of .ensures t)) Absent (lentOf (asked (start c)) (c .before .before .before .before .before .before .put-palette .ensures .front t))
+same-picture : (c : tie.After-draw-arg2) → let q = asked (began (listed c)) in
+    drawingOf (dithererOf q (c .before .before .before .width-of .result)) Absent
+    (lentOf q (take (3 * entries q) (listed c .put-list-oklab .last .1 .1 .1 .1 .0)))
+    ≡ quantizing q
+same-picture c =
+    let q = asked (began (listed c)) in
+    λ t. drawingOf (dithererOf q (c .before .before .before .width-of .ensures t)) Absent (lentOf q (front (listed c) t))
 
-drawn-over : (c : tie.After-draw) → c .draw .last .1 .1 .1 .1 .1 .1 .1 .1 .0 ≡ reducedBytes (quantizing (asked (start (c .before))))
+drawn-over : (c : tie.After-draw) → c .draw .last .1 .1 .1 .1 .1 .1 .1 .1 .0 ≡ reducedBytes (quantizing (asked (began (listed (c .before)))))
 drawn-over c = c .draw .ensures .0 ∙ ap reducedBytes (same-picture (c .before))
 
 linear-table-requires : tie.Need-linear-table-requires
 linear-table-requires c κs = search needs
 
-put-palette-requires : tie.Need-put-palette-requires
-put-palette-requires c κs = search needs
+put-list-oklab-requires : tie.Need-put-list-oklab-requires
+put-list-oklab-requires c κs = search needs
 
 width-of-requires : tie.Need-width-of-requires
 width-of-requires c κs = search needs
@@ -43,23 +72,34 @@ slice-reshare-prefix-oklab : tie.Need-slice-reshare-prefix-oklab
 slice-reshare-prefix-oklab c = search needs
 
 slice-aggregate-oklab : tie.Need-slice-aggregate-oklab
-slice-aggregate-oklab c = front-long _ _ _ _ (c .before .before .before .before .put-palette .ensures)
+slice-aggregate-oklab c =
+    let p = c .before .before .before .before in
+    let q = asked (began p) in
+    sym (ap length (front p) ∙ list-long (q .scale) (reducedAt (q .palette)) (entries q))
 
 draw-requires : tie.Need-draw-requires
 draw-requires c κs =
-    let a = start c .args in
-    let f = start c .pre .0 in
-    (ready (asked (start c)) (a .indices .now) (a .out .now) (a .cells .now) f (c .before .before .before .before .before .before .put-palette .ensures .ranged) _ _ (c .before .before .before .before .before .before .put-palette .ensures .front), f .out, f .cells)
+    let s = began (listed c) in
+    let a = s .args in
+    let f = s .pre .0 in
+    (ready (asked s) (a .indices .now) (a .out .now) (a .cells .now) f (fit (listed c)) _ _ (front (listed c)), f .out, f .cells)
 
 mul-size : tie.Need-mul-size
 mul-size c = search needs
 
+put-indices-requires : tie.Need-put-indices-requires
+put-indices-requires c κs =
+    let d = c .before .before .before .before .before .before in
+    let s = began (listed (d .before)) in
+    let a = s .args in
+    (indexable (asked s) (a .indices .now) (a .out .now) (a .cells .now) (s .pre .0) (fit (listed (d .before))) _ (drawn-over d), s .pre .0 .indices)
+
 finish-requires : tie.Need-finish-requires
 finish-requires c κs =
-    let d = c .before .before .before .before .before .before in
-    let s = start (d .before) in
-    let f = s .pre .0 in
-    (choices (asked s) (s .args .indices .now) (s .args .out .now) (s .args .cells .now) f (d .before .before .before .before .before .before .before .put-palette .ensures .ranged) _ (drawn-over d), f .indices)
+    let d = c .before .before .before .before .before .before .before .before .before .before in
+    let s = began (listed (d .before)) in
+    let a = s .args in
+    finishable (asked s) (a .indices .now) (a .out .now) (a .cells .now) (s .pre .0) (fit (listed (d .before))) _ (drawn-over d)
 
 same-length : tie.Need-same-length
 same-length c = search needs
@@ -75,23 +115,29 @@ same-length-4 c = search needs
 
 returns : tie.Need-returns
 returns c =
-    let d = c .before .before .before .before .before .before .before .before .before .before .before in
-    let s = start (d .before) in
-    let e = finished-all (asked s) (s .args .indices .now) (s .args .out .now) (s .args .cells .now) (s .pre .0) (d .before .before .before .before .before .before .before .put-palette .ensures .ranged) _ (drawn-over d) in
-    (c .before .before .before .before .finish .ensures .0 ∙ e .0, c .before .before .before .before .finish .ensures .1 ∙ e .1, d .draw .ensures .1 ∙ ap (λ (p : Drawing). cellsAfter p (s .args .cells .now)) (same-picture (d .before)))
+    let d = c .before .before .before .before .before .before .before .before .before .before .before .before .before in
+    let s = began (listed (d .before)) in
+    let a = s .args in
+    let q = asked s in
+    let indexed = indexed-all q (a .indices .now) (a .out .now) (a .cells .now) (s .pre .0) (fit (listed (d .before))) _ (drawn-over d) in (
+      c .before .before .before .before .before .before .put-indices .ensures ∙ indexed,
+      c .before .before .finish .ensures ∙ finished-all (quantizing q) _ (drawn-over d),
+      d .draw .ensures .1 ∙ ap (λ (p : Drawing). cellsAfter p (a .cells .now)) (same-picture (d .before)),
+    )
 
 pub quantize-spec : {M : Type 1} → statement M
 quantize-spec =
     tie.close
     (tie.spec
     linear-table-requires
-    put-palette-requires
+    put-list-oklab-requires
     width-of-requires
     mul-oklab
     slice-reshare-prefix-oklab
     slice-aggregate-oklab
     draw-requires
     mul-size
+    put-indices-requires
     finish-requires
     same-length
     same-length-2

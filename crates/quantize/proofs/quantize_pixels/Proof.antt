@@ -1,15 +1,27 @@
 -- `quantize::quantize_pixels` meets its contract: a refusal is answered before any store, and an acceptance after the work. Assumes nothing.
 use mathlib.Core.Path.{refl, sym, _∙_, ap}
+use mathlib.Core.List.{List}
+use Rattle.replies.specs.Replies.{Reply}
 use Rattle.replies.proofs.ReplyLaws.{after-refused}
-use Rattle.quantize.specs.Quantize.{Order, order, replyOf, lengthsOf}
-use Rattle.quantize.proofs.FittingLaws.{refused, accepted}
+use Rattle.replies.proofs.AnswerLaws.{answers}
+use Rattle.quantize.specs.Quantize.{Commission, commission, lengthsOf, replies, numberOf, answerOf}
+use Rattle.quantize.proofs.FittingLaws.{own-number, refused, accepted}
 use borrow.Author.Needs.{needs}
 use Rattle.quantize.proofs.quantize_pixels.Statement.{statement}
 use Rattle.quantize.proofs.quantize_pixels.Tie as tie
 
--- what was asked for, and lent
-abbrev asked : tie.Start → Order
-asked s = let a = s .args in order (a .shift) (a .kind) (a .width) (a .height) (a .reduction .now) (a .scale .now) (a .palette .now) (a .pixels .now)
+-- what was asked for, and lent; and what can be answered
+abbrev asked : tie.Start → Commission
+asked s =
+    let a = s .args in
+    commission (a .shift) (a .kind) (a .width) (a .height) (a .reduction .now) (a .scale .now) (a .palette .now) (a .pixels .now)
+
+abbrev rows : tie.Start → List Reply
+rows s = replies (asked s) (s .args .indices .now) (s .args .out .now) (s .args .cells .now)
+
+-- where the number is known
+abbrev start : tie.After-refusal → tie.Start
+start c = c .before .before .before .before .before .before .before .before
 
 refusal-requires : tie.Need-refusal-requires
 refusal-requires c κs = search needs
@@ -17,7 +29,7 @@ refusal-requires c κs = search needs
 returns : tie.Need-returns
 returns c =
     let n = c .before .refusal in record {
-      answer = refused (n .result) (c .if1 .taken) ∙ ap replyOf (n .ensures);
+      answer = answers numberOf (rows (start (c .before))) answerOf own-number (refused (n .result) (c .if1 .taken) ∙ ap answerOf (n .ensures));
       index-buffer = after-refused (n .result) _ _ (c .if1 .taken);
       picture = after-refused (n .result) _ _ (c .if1 .taken);
       cell-buffer = after-refused (n .result) _ _ (c .if1 .taken);
@@ -29,8 +41,9 @@ slice-aggregate-quantize c = search needs
 quantize-requires : tie.Need-quantize-requires
 quantize-requires c κs =
     let e = c .before .before .before .before in
-    let s = e .before .before .before .before .before .before .before .before .before in
-    (accepted (asked s) (lengthsOf (asked s) (s .args .indices .now) (s .args .out .now) (s .args .cells .now)) (sym (e .before .refusal .ensures) ∙ e .if1 .left), refl)
+    let s = start (e .before) in
+    let lengths = lengthsOf (asked s) (s .args .indices .now) (s .args .out .now) (s .args .cells .now) in
+    (accepted (asked s) lengths (sym (e .before .refusal .ensures) ∙ e .if1 .left), refl)
 
 same-length : tie.Need-same-length
 same-length c = search needs
@@ -46,7 +59,7 @@ returns-2 c =
     let k = c .before .before .before .before .before .before .before in
     let e = k .before .before .before .before .before in
     record {
-      answer = ap replyOf (sym (e .if1 .left) ∙ e .before .refusal .ensures);
+      answer = answers numberOf (rows (start (e .before))) answerOf own-number (ap answerOf (sym (e .if1 .left) ∙ e .before .refusal .ensures));
       index-buffer = k .quantize .ensures .0;
       picture = k .quantize .ensures .1;
       cell-buffer = k .quantize .ensures .2;

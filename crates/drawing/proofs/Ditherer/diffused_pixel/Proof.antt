@@ -1,11 +1,12 @@
 -- `drawing::Ditherer::diffused_pixel` meets its contract: a skipped pixel leaves the cells alone, and a dithered one passes its residual on. Assumes
 -- nothing.
-use mathlib.Core.Path.{sym, _∙_}
+use mathlib.Core.Path.{_≡_, sym, _∙_}
+use mathlib.Core.Bool.{Bool}
 use Prim.Native.Nat.{ℕ, _≤_}
 use native.Mathlib.Nat.{le-of-lt}
 use native.Mathlib.Omega.{arith}
 use lib.ListN.{getD}
-use Rattle.drawing.specs.Lent.{lent}
+use Rattle.drawing.specs.Lent.{isSkipped, Lent, lent, reducedLent}
 use Rattle.drawing.proofs.DrawnLaws.{drawn-skipped}
 use Rattle.drawing.proofs.TurnLaws.{turn-length, turn-cells, turn-skipped, turn-choice, turn-passed}
 use Rattle.drawing.proofs.StepLaws.{choosable, placed, skipped-as}
@@ -13,50 +14,76 @@ use borrow.Author.Needs.{needs}
 use Rattle.drawing.proofs.Ditherer.diffused_pixel.Statement.{statement}
 use Rattle.drawing.proofs.Ditherer.diffused_pixel.Tie as tie
 
-pixel-at-requires : tie.Need-pixel-at-requires
-pixel-at-requires c κs = search needs
+-- where it is asked whether the pixel is skipped
+abbrev start : tie.After-is-skipped → tie.Start
+start c = c .before .before .before .before .before .before .before .before
+
+-- what was lent
+abbrev given : tie.Start → Lent
+given s = let a = s .args in lent (a .reduction .now) (a .scale .now) (a .pixels .now) (a .colors .now) (a .oklab .now) (a .count)
+
+skipped : (c : tie.After-is-skipped) (t : Bool) → c .is-skipped .result ≡ t
+    → isSkipped (start c .args .zero) (reducedLent (given (start c)) (start c .args .i)) ≡ t
+skipped c t e = skipped-as _ _ _ _ _ (c .before .reduced-at .ensures) (c .is-skipped .ensures) e
+
+-- the scale table holds bytes
+bytes : (c : tie.After-is-skipped) (v : ℕ) → getD (start c .args .scale .now) v 0 ≤ 255
+bytes c v = omega (arith, c .before .before .before .before .before .before .shared-slice-known2 .given v)
+
+reduced-at-requires : tie.Need-reduced-at-requires
+reduced-at-requires c κs = search needs
 
 is-skipped-requires : tie.Need-is-skipped-requires
 is-skipped-requires c κs = search needs
 
 returns : tie.Need-returns
 returns c =
-    let read = c .before .before .pixel-at .ensures in
-    let p = c .before .before .before .before .before .before .before .before .before .pre in
-    let s = skipped-as _ _ _ _ _ _ _ read (c .before .is-skipped .ensures) (c .if1 .taken) in
-    (read ∙ sym (drawn-skipped _ _ s), turn-skipped _ _ _ s (p .4), p .5)
+    let k = c .before in
+    let p = start k .pre in
+    let s = skipped k _ (c .if1 .taken) in
+    (k .before .reduced-at .ensures ∙ sym (drawn-skipped _ _ s), turn-skipped _ _ _ s (p .4), p .5)
 
 source-at-requires : tie.Need-source-at-requires
 source-at-requires c κs = search needs
 
 diffusion-color-at-requires : tie.Need-diffusion-color-at-requires
 diffusion-color-at-requires c κs =
-    let b = c .before .before .before .before .before .before .before .before .before .before .before .before in
-    let a = b .args in
-    let p = b .pre in
-    let s = skipped-as _ _ _ _ _ _ _ (c .before .before .before .before .before .pixel-at .ensures) (c .before .before .before .before .is-skipped .ensures) (c .before .before .before .if1 .left) in
-    let bytes : (v : ℕ) → getD (a .scale .now) v 0 ≤ 255 = λ v. omega (arith, c .before .before .before .before .before .before .before .before .before .before .shared-slice-known2 .given v) in
-    (p .0, choosable (p .1) _ (p .3) s, placed (p .1) _ (p .3), p .2, turn-length _ _ _ (le-of-lt (p .3)) (p .4), (_, turn-cells (a .self) (a .zero) (lent (a .reduction .now) (a .scale .now) (a .pixels .now) (a .colors .now) (a .oklab .now) (a .count)) bytes _ _ (le-of-lt (p .3)) (p .4)), p .5)
+    let k = c .before .before .before .before in
+    let s = start k in
+    let p = s .pre in
+    let cells = turn-cells (s .args .self) (s .args .zero) (given s) (bytes k) _ _ (le-of-lt (p .3)) (p .4) in (
+      p .0,
+      choosable (p .1) _ (p .3) (skipped k _ (c .before .before .before .if1 .left)),
+      placed (p .1) _ (p .3),
+      p .2,
+      turn-length _ _ _ (le-of-lt (p .3)) (p .4),
+      (_, cells),
+      p .5,
+    )
 
 same-length : tie.Need-same-length
 same-length c = search needs
 
 returns-2 : tie.Need-returns-2
 returns-2 c =
-    let b = c .before .before .before .before .before .before .before .before .before .before .before .before .before .before .before in
-    let a = b .args in
-    let p = b .pre in
-    let s = skipped-as _ _ _ _ _ _ _ (c .before .before .before .before .before .before .before .before .pixel-at .ensures) (c .before .before .before .before .before .before .before .is-skipped .ensures) (c .before .before .before .before .before .before .if1 .left) in
-    let bytes : (v : ℕ) → getD (a .scale .now) v 0 ≤ 255 = λ v. omega (arith, c .before .before .before .before .before .before .before .before .before .before .before .before .before .shared-slice-known2 .given v) in
-    let l = lent (a .reduction .now) (a .scale .now) (a .pixels .now) (a .colors .now) (a .oklab .now) (a .count) in
-    let made = c .before .before .diffusion-color-at .ensures .0 _ (turn-cells (a .self) (a .zero) l bytes _ _ (le-of-lt (p .3)) (p .4)) in
-    (turn-choice (a .self) (a .zero) l _ (p .3) s (p .2) _ (c .before .before .before .before .before .source-at .ensures) _ _ made, turn-passed (a .self) (a .zero) l _ (p .3) s (p .2) _ (c .before .before .before .before .before .source-at .ensures) _ _ made, c .before .before .diffusion-color-at .ensures .1)
+    let k = c .before .before .before .before .before .before .before in
+    let s = start k in
+    let a = s .args in
+    let p = s .pre in
+    let dithers = skipped k _ (c .before .before .before .before .before .before .if1 .left) in
+    let own = c .before .before .before .before .before .source-at .ensures in
+    let called = c .before .before .diffusion-color-at .ensures in
+    let made = called .0 _ (turn-cells (a .self) (a .zero) (given s) (bytes k) _ _ (le-of-lt (p .3)) (p .4)) in (
+      turn-choice (a .self) (a .zero) (given s) _ (p .3) dithers (p .2) _ own _ _ made,
+      turn-passed (a .self) (a .zero) (given s) _ (p .3) dithers (p .2) _ own _ _ made,
+      called .1,
+    )
 
 pub diffused-pixel-spec : {M : Type 1} → statement M
 diffused-pixel-spec =
     tie.close
     (tie.spec
-    pixel-at-requires
+    reduced-at-requires
     is-skipped-requires
     returns
     source-at-requires

@@ -28,11 +28,12 @@ same-length : tie.Need-same-length
 same-length c = search needs
 
 returns : tie.Need-returns
-returns c = (
+returns c = let n = c .before .before .before .before .before in (
   λ zs Z.
-      diffused-is _ _ _ zs _ _ _ _ _ _ _ _ (c .before .before .before .before .before .before .before .before .before .biased-color .ensures zs Z) (c .before .before .before .before .before .before .before .nearest-color .ensures .0) (c .before .before .before .before .before .before .normalize-color .ensures) (c .before .before .before .before .before .column .ensures .0) (c .before .before .before .before .row .ensures .0)
+      diffused-is _ _ _ zs _ _ _ _ _ _ _ _ (n .before .before .before .before .biased-color .ensures zs Z) (n .before .before .nearest-color .ensures .0)
+      (n .before .normalize-color .ensures) (n .column .ensures .0) (c .before .before .before .before .row .ensures .0)
       (c .before .before .diffuse-residual .ensures zs Z),
-  c .before .before .before .before .before .before .before .nearest-color .ensures .1,
+  n .before .before .nearest-color .ensures .1,
 )
 
 pub diffusion-color-at-spec : {M : Type 1} → statement M

@@ -1,5 +1,8 @@
 -- `drawing::Ditherer::draw` meets its contract, by the kind. Assumes nothing.
-use mathlib.Core.Path.{sym, _∙_}
+use mathlib.Core.Path.{_≡_, sym, _∙_}
+use mathlib.Core.Bool.{Bool}
+use Rattle.patterns.specs.Kinds.{isDiffusion}
+use Rattle.drawing.specs.Drawing.{Drawing}
 use Rattle.drawing.specs.Lent.{lent, drawingOf}
 use Rattle.drawing.proofs.TurnLaws.{turn-end, turn-none}
 use Rattle.remembered.proofs.TableLaws.{table-none}
@@ -7,6 +10,19 @@ use Rattle.drawing.proofs.StepLaws.{remembers-none}
 use borrow.Author.Needs.{needs}
 use Rattle.drawing.proofs.Ditherer.draw.Statement.{statement}
 use Rattle.drawing.proofs.Ditherer.draw.Tie as tie
+
+-- where the kind is asked, and what was answered
+abbrev start : tie.After-is-diffusion → tie.Start
+start c = c .before .before .before .before .before .before .before .before .before
+
+kind-is : (c : tie.After-is-diffusion) (t : Bool) → c .is-diffusion .result ≡ t → isDiffusion (start c .args .self .kind) ≡ t
+kind-is c t e = sym (c .is-diffusion .ensures) ∙ e
+
+-- the picture that is drawn
+abbrev picture : tie.Start → Drawing
+picture s =
+    let a = s .args in
+    drawingOf (a .self) (a .zero) (lent (a .reduction .now) (a .scale .now) (a .pixels .now) (a .colors .now) (a .oklab .now) (a .count))
 
 linear-table-requires : tie.Need-linear-table-requires
 linear-table-requires c κs = search needs
@@ -16,14 +32,17 @@ is-diffusion-requires c κs = search needs
 
 draw-diffused-requires : tie.Need-draw-diffused-requires
 draw-diffused-requires c κs =
-    let p = c .before .before .before .before .before .before .before .before .before .before .before .before .before .before .pre in
-    let d = sym (c .before .before .before .before .before .is-diffusion .ensures) ∙ c .before .before .before .before .if1 .taken in
-    (record { is = c .before .before .before .before .before .before .linear-table .ensures }, p .0, d, p .1, p .2 d, table-none _)
+    let k = c .before .before .before .before .before in
+    let p = start k .pre in
+    let d = kind-is k _ (c .before .before .before .before .if1 .taken) in
+    (record { is = k .before .linear-table .ensures }, p .0, d, p .1, p .2 d, table-none _)
 
 draw-each-requires : tie.Need-draw-each-requires
 draw-each-requires c κs =
-    let p = c .before .before .before .before .before .before .before .before .before .before .before .before .before .pre in
-    (record { is = c .before .before .before .before .before .linear-table .ensures }, p .0, sym (c .before .before .before .before .is-diffusion .ensures) ∙ c .before .before .before .if1 .left, p .1, remembers-none (c .before .before .before .before .before .before .before .before .before .before .before .before .before .args .self) _)
+    let k = c .before .before .before .before in
+    let p = start k .pre in
+    let e = kind-is k _ (c .before .before .before .if1 .left) in
+    (record { is = k .before .linear-table .ensures }, p .0, e, p .1, remembers-none (start k .args .self) _)
 
 same-length : tie.Need-same-length
 same-length c = search needs
@@ -33,15 +52,17 @@ same-length-2 c = search needs
 
 returns : tie.Need-returns
 returns c =
-    let a = c .before .before .before .before .before .before .before .before .before .before .before .before .before .before .before .before .before .before .before .args in
+    let k = c .before .before .before .before .before .before .before .before .before .before in
     let e = c .before .before .before .before .draw-diffused .ensures in
-    (e .0, turn-end (drawingOf (a .self) (a .zero) (lent (a .reduction .now) (a .scale .now) (a .pixels .now) (a .colors .now) (a .oklab .now) (a .count))) (sym (c .before .before .before .before .before .before .before .before .before .before .is-diffusion .ensures) ∙ c .before .before .before .before .before .before .before .before .before .if1 .taken) _ _ (e .1))
+    (e .0, turn-end (picture (start k)) (kind-is k _ (c .before .before .before .before .before .before .before .before .before .if1 .taken)) _ _ (e .1))
 
 same-length-3 : tie.Need-same-length-3
 same-length-3 c = search needs
 
 returns-2 : tie.Need-returns-2
-returns-2 c = (c .before .before .draw-each .ensures, turn-none _ (sym (c .before .before .before .before .before .before .before .is-diffusion .ensures) ∙ c .before .before .before .before .before .before .if1 .left) _)
+returns-2 c =
+    let k = c .before .before .before .before .before .before .before in
+    (c .before .before .draw-each .ensures, turn-none _ (kind-is k _ (c .before .before .before .before .before .before .if1 .left)) _)
 
 pub draw-spec : {M : Type 1} → statement M
 draw-spec =

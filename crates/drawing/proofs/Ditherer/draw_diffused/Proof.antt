@@ -23,6 +23,10 @@ Inv-loop self zero linear reduction scale pixels colors oklab count memory₀ ou
 abbrev μ-loop : tie.MeasureT-loop
 μ-loop self zero linear reduction scale pixels colors oklab count memory₀ out₀ cells₀ size i₀ memory out cells i = size - i
 
+-- where the function began, from a turn of the loop
+abbrev start : tie.In-loop Inv-loop μ-loop → tie.Start Inv-loop μ-loop
+start c = c .before .before .before .before .before .before .before .before .before .before .before .before .before .before .before
+
 zero-floats-requires : tie.Need-zero-floats-requires Inv-loop μ-loop
 zero-floats-requires c κs = search needs
 
@@ -36,16 +40,25 @@ mul-size : tie.Need-mul-size Inv-loop μ-loop
 mul-size c = search needs
 
 loop-holds : tie.Need-loop-holds Inv-loop μ-loop
-loop-holds c = (fill-begin 4 _ _, turn-begin _ _ _ (c .before .before .before .before .before .before .before .before .before .before .before .before .before .pre .4) (c .before .before .before .before .zero-floats .ensures), c .before .before .before .before .before .before .before .before .before .before .before .before .before .pre .5)
+loop-holds c =
+    let p = c .before .before .before .before .before .before .before .before .before .before .before .before .before .pre in
+    (fill-begin 4 _ _, turn-begin _ _ _ (p .4) (c .before .before .before .before .zero-floats .ensures), p .5)
 
 diffused-pixel-requires : tie.Need-diffused-pixel-requires Inv-loop μ-loop
-diffused-pixel-requires c κs = let p = c .before .before .before .before .before .before .before .before .before .before .before .before .before .before .before .before .before .pre in (p .0, p .1, p .2, c .before .before .loop-test .taken, c .before .before .before .loop .inv .1, c .before .before .before .loop .inv .2)
+diffused-pixel-requires c κs =
+    let l = c .before .before in
+    let p = start l .pre in
+    (p .0, p .1, p .2, l .loop-test .taken, l .before .loop .inv .1, l .before .loop .inv .2)
 
 put-rgba-requires : tie.Need-put-rgba-requires Inv-loop μ-loop
-put-rgba-requires c κs = omega (arith, c .before .before .before .before .before .before .before .loop .inv .0 .long, c .before .before .before .before .before .before .before .before .before .before .before .before .before .before .before .before .before .before .before .before .before .pre .3, c .before .before .before .before .before .before .loop-test .taken)
+put-rgba-requires c κs =
+    let l = c .before .before .before .before .before .before in
+    omega (arith, l .before .loop .inv .0 .long, start l .pre .3, l .loop-test .taken)
 
 add-i : tie.Need-add-i Inv-loop μ-loop
-add-i c = omega (arith, c .before .before .before .before .before .before .before .before .before .before .before .before .before .before .before .before .before .before .before .before .before .before .before .before .pre .1 .few, c .before .before .before .before .before .before .before .before .before .loop-test .taken)
+add-i c =
+    let l = c .before .before .before .before .before .before .before .before .before in
+    omega (arith, start l .pre .1 .few, l .loop-test .taken)
 
 loop-less : tie.Need-loop-less Inv-loop μ-loop
 loop-less c = omega (arith, c .before .before .before .before .before .before .before .before .before .loop-test .taken)
@@ -53,7 +66,9 @@ loop-less c = omega (arith, c .before .before .before .before .before .before .b
 loop-again : tie.Need-loop-again Inv-loop μ-loop
 loop-again c =
     let chosen = c .before .before .before .before .before .before .diffused-pixel .ensures in
-    (out-more _ _ _ _ (c .before .before .before .before .before .before .before .before .before .before .before .before .before .before .before .before .before .before .before .before .before .before .before .before .pre .3) (c .before .before .before .before .before .before .before .before .before .before .loop .inv .0) _ _ (c .before .before .before .before .before .before .before .before .before .loop-test .taken) (chosen .0) (c .before .before .put-rgba .ensures), chosen .1, chosen .2)
+    let l = c .before .before .before .before .before .before .before .before .before in
+    let out = out-more _ _ _ _ (start l .pre .3) (l .before .loop .inv .0) _ _ (l .loop-test .taken) (chosen .0) (c .before .before .put-rgba .ensures) in
+    (out, chosen .1, chosen .2)
 
 same-length : tie.Need-same-length Inv-loop μ-loop
 same-length c = c .before .loop .inv .0 .long

@@ -12,7 +12,8 @@ bracket-at-requires : tie.Need-bracket-at-requires
 bracket-at-requires c κs =
     let s = c .before .before .before .before .before in
     let a = s .args in
-    bracket-entries (scaled (a .colors .now) (a .scale .now) (a .oklab .now) (a .count)) _ _ _ (c .bracket-positions .ensures .0) (s .pre .1 .some) (s .pre .1 .ranged .range) _ (s .pre .1 .room)
+    bracket-entries (scaled (a .colors .now) (a .scale .now) (a .oklab .now) (a .count)) _ _ _ (c .bracket-positions .ensures .0)
+    (s .pre .1 .some) (s .pre .1 .ranged .range) _ (s .pre .1 .room)
 
 source-column-requires : tie.Need-source-column-requires
 source-column-requires c κs = search needs
@@ -29,8 +30,12 @@ pick-at-requires c κs = search needs
 returns : tie.Need-returns
 returns c =
     let a = c .before .before .before .before .before .before .before .before .before .before .args in
-    let at = c .before .before .before .before .before .bracket-positions .ensures in
-    (ordered-is (scaled (a .colors .now) (a .scale .now) (a .oklab .now) (a .count)) _ _ _ (at .0) (a .self .kind) _ _ _ _ _ _ _ (c .before .before .before .before .bracket-at .ensures) (c .before .before .before .source-column .ensures) (c .before .before .source-row .ensures) (c .before .threshold-at .ensures) (c .pick-at .ensures), at .1)
+    let at = c .before .before .before .before .before .bracket-positions .ensures in (
+      ordered-is (scaled (a .colors .now) (a .scale .now) (a .oklab .now) (a .count)) _ _ _ (at .0) (a .self .kind) _ _ _ _ _ _ _
+          (c .before .before .before .before .bracket-at .ensures) (c .before .before .before .source-column .ensures) (c .before .before .source-row .ensures)
+          (c .before .threshold-at .ensures) (c .pick-at .ensures),
+      at .1,
+    )
 
 pub ordered-color-at-spec : {M : Type 1} → statement M
 ordered-color-at-spec =

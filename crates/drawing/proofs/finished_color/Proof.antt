@@ -1,8 +1,8 @@
--- `dither::finished_color` meets its contract, by whether the pixel is opaque. Assumes nothing.
-use Rattle.dither.specs.Mode.{finished}
+-- `drawing::finished_color` meets its contract, by whether the pixel is seen. Assumes nothing.
+use Rattle.drawing.specs.Finished.{finished}
 use borrow.Author.Needs.{needs}
-use Rattle.dither.proofs.finished_color.Statement.{statement}
-use Rattle.dither.proofs.finished_color.Tie as tie
+use Rattle.drawing.proofs.finished_color.Statement.{statement}
+use Rattle.drawing.proofs.finished_color.Tie as tie
 
 normalize-color-requires : tie.Need-normalize-color-requires
 normalize-color-requires c κs = search needs

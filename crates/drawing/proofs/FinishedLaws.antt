@@ -1,0 +1,54 @@
+-- A drawn picture at full precision: its finished choices are it (`finished-all`); what stands at a pixel (`pixel-here`), which is TRANSPARENT for a
+-- transparent pixel (`pixel-transparent`), and for another its choice normalised (`pixel-seen`). A pixel that is not skipped is seen (`drawn-seen`), and where
+-- there is no colour zero, one that is seen is not skipped (`seen-drawn`). Assumes nothing.
+use mathlib.Core.Path.{_≡_, _∙_, ap}
+use mathlib.Core.Bool.{Bool, true, false, not}
+use mathlib.Core.List.{List}
+use Prim.Native.Nat.{ℕ, _*_, _<_}
+use borrow.Author.Tests.{not-true}
+use Rattle.lists.proofs.Bools.{or-split}
+use Rattle.lists.proofs.GatherLaws.{gather-same}
+use Rattle.color.specs.declared.ReducedColor.{ReducedColor}
+use Rattle.color.specs.Color.{isTransparent, normalizedAt, reducedAt, bytesOf, transparentNormalized}
+use Rattle.color.proofs.PieceLaws.{rgba-gathered}
+use Rattle.picture.specs.Pixels.{isSeen}
+use Rattle.drawing.specs.declared.ColorZero.{ColorZero}
+use Rattle.drawing.specs.declared.ColorZero.the-variants.{Absent}
+use Rattle.drawing.specs.Drawing.{Drawing, drawn}
+use Rattle.drawing.specs.Lent.{isSkipped, reducedBytes}
+use Rattle.drawing.specs.Finished.{finished, finishedBytes, finishedPixel, finishedPicture}
+use Rattle.drawing.proofs.OutputLaws.{bytes-at}
+
+module _ (d : Drawing) where
+  pub finished-all : (chosen : List ℕ) → chosen ≡ reducedBytes d
+      → finishedBytes (d .normalize) (d .reduced) (reducedAt chosen) (d .width * d .height) ≡ finishedPicture d
+  unfolding finishedBytes
+  finished-all chosen e =
+      gather-same (d .width * d .height)
+      (λ i h. ap (λ (c : ReducedColor). bytesOf (finished (d .normalize) (isSeen (d .reduced) i) c .0)) (ap (λ (l : List ℕ). reducedAt l i) e ∙ bytes-at d i h))
+
+  pub pixel-here : (i : ℕ) → i < d .width * d .height → normalizedAt (finishedPicture d) i ≡ finishedPixel d i
+  unfolding finishedBytes
+  pixel-here i h = λ t. record { 0 = rgba-gathered (λ j. finishedPixel d j .0) (d .width * d .height) i h t }
+
+  module _ (i : ℕ) where
+    here : (seen : Bool) → isSeen (d .reduced) i ≡ seen → finishedPixel d i ≡ finished (d .normalize) seen (drawn d i)
+    here seen e = ap (λ (t : Bool). finished (d .normalize) t (drawn d i)) e
+
+    pub pixel-transparent : isSeen (d .reduced) i ≡ false → finishedPixel d i ≡ transparentNormalized
+    unfolding finished
+    pixel-transparent e = here false e
+
+    pub pixel-seen : isSeen (d .reduced) i ≡ true → finishedPixel d i ≡ d .normalize (drawn d i)
+    unfolding finished
+    pixel-seen e = here true e
+
+-- ---- skipped, and seen
+module _ (reduced : ℕ → ReducedColor) (i : ℕ) where
+  pub drawn-seen : (zero : ColorZero) → isSkipped zero (reduced i) ≡ false → isSeen reduced i ≡ true
+  unfolding isSkipped isSeen
+  drawn-seen zero s = ap not (or-split (isTransparent (reduced i .0)) _ s .0)
+
+  pub seen-drawn : isSeen reduced i ≡ true → isSkipped Absent (reduced i) ≡ false
+  unfolding isSkipped isSeen
+  seen-drawn e = let t : isTransparent (reduced i .0) ≡ false = not-true _ e in rw t
