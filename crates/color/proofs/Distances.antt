@@ -1,18 +1,19 @@
 -- Oklab distances. A component that passes the test of range is `Within 2`; so the distance of accepted colours is finite, at most 112, not
 -- negative and not -0, and ordinary comparison puts such distances in their order. And what `oklab_sqdist` answers, by its number. Assumes nothing.
 use mathlib.Core.Path.{_≡_, refl}
-use Prim.Native.Nat.{ℕ, zero, suc}
+use Prim.Native.Nat.{ℕ}
 use mathlib.Core.Bool.{_&&_}
 use lib.Dec.{T, lit≤, lit<}
 use lib.Ieee.{Float, binary32, round, add, sub, mul, neg, le, ofBits, fits}
 use lib.Ieee.Fits.{and-l, and-r, and-i, add-fits}
-use Rattle.replies.proofs.AnswerLaws.{answered, answers}
+use Rattle.replies.proofs.AnswerLaws.{answered, value-promised}
 use Rattle.floats.specs.Over.{over}
 use Rattle.floats.specs.Bounds.{Within, Upto}
 use Rattle.floats.proofs.Range.{within-of-le, le-of-within}
 use Rattle.floats.proofs.Within.{round-upto, mul-upto, square-upto, add-upto, sub-within}
 use Rattle.color.specs.declared.Oklab.{Oklab}
 use Rattle.color.specs.declared.Distance.{Distance}
+use Rattle.color.specs.declared.Distance.the-variants.{Refused}
 use Rattle.color.specs.Oklab.{two, chroma, square, inRange, allInRange, sqdistOf}
 use Rattle.color.specs.Oklab.{numberOf, distanceReplies, distanceAnswer, OklabSqdistAnswered, distanceOf}
 
@@ -77,13 +78,8 @@ distance-fits p q =
 
 -- ---- the answer
 module _ (a b : Oklab) where
-  -- what is answered with a number has that number
-  own : (n : ℕ) → numberOf (distanceAnswer a b n) ≡ n
-  own zero = refl
-  own (suc n) = refl
-
   pub distance-promised : {r : Distance} → r ≡ distanceOf a b → OklabSqdistAnswered a b r
-  distance-promised e = answers numberOf (distanceReplies a b) (distanceAnswer a b) own e
+  distance-promised e = value-promised numberOf (distanceReplies a b) _ Refused refl (λ n. refl) e
 
   pub distance-answered : {r : Distance} → OklabSqdistAnswered a b r → r ≡ distanceOf a b
   distance-answered p = answered numberOf (distanceReplies a b) (distanceAnswer a b) p

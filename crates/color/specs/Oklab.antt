@@ -1,13 +1,13 @@
 -- Oklab colours and their weighted squared distance, in the Rust's order of operations, each rounded to an f32. Definitions only.
 -- Written from `oklab_sqdist` of src/color.rs, and from document 01: "weight 2.15", and refusal 6.
-use Prim.Native.Nat.{ℕ, zero, suc, _+_, _*_}
+use Prim.Native.Nat.{ℕ, _+_, _*_}
 use mathlib.Core.Bool.{Bool, _&&_, not, false}
 use mathlib.Core.List.{List, [], _∷_}
 use lib.IntN.{pos}
 use lib.ListN.{getD}
 use lib.Ieee.{Float, nan, fin, binary32, add, sub, mul, neg, le}
 use Rattle.replies.specs.Replies.{Reply, _if_, firstReply}
-use Rattle.replies.specs.Answers.{Answers}
+use Rattle.replies.specs.Answers.{Answers, valueOr}
 use Rattle.floats.specs.Over.{over}
 use Rattle.color.specs.declared.Oklab.{Oklab}
 use Rattle.color.specs.declared.Distance.{Distance}
@@ -48,8 +48,7 @@ distanceReplies a b = (6 if not (allInRange a && allInRange b)) ∷ []
 
 -- what it answers with a number: the distance with 0, and else the number alone
 abbrev pub distanceAnswer : (a b : Oklab) → ℕ → Distance
-distanceAnswer a b zero = Squared (sqdistOf a b)
-distanceAnswer a b (suc n) = Refused (suc n)
+distanceAnswer a b = valueOr (Squared (sqdistOf a b)) Refused
 
 -- what `oklab_sqdist` promises of its answer r
 abbrev pub OklabSqdistAnswered : (a b : Oklab) → Distance → Type 0

@@ -3,13 +3,14 @@
 use mathlib.Core.Path.{_≡_, refl, sym, subst}
 use mathlib.Core.Logic.{inl, inr}
 use mathlib.Core.Bool.{true, _||_}
-use Prim.Native.Nat.{ℕ, zero, suc, _+_, _*_, _≤_, _<_}
+use Prim.Native.Nat.{ℕ, _+_, _*_, _≤_, _<_}
 use native.Mathlib.Nat.{mul-le-mul, le-of-lt}
 use native.Mathlib.Omega.{arith}
 use lib.Dec.{T, eqb, eqb→eq}
 use mir.Facts.{or-yes}
-use Rattle.replies.proofs.AnswerLaws.{answered, answers}
+use Rattle.replies.proofs.AnswerLaws.{answered, value-promised}
 use Rattle.mixing.specs.declared.Width.{Width}
+use Rattle.mixing.specs.declared.Width.the-variants.{Refused}
 use Rattle.mixing.specs.Widths.{isShift, clampWidth, sixteenth, widthOf}
 use Rattle.mixing.specs.Widths.{numberOf, widthReplies, widthAnswer, BracketWidthAnswered, bracketWidthOf}
 
@@ -59,13 +60,8 @@ width-full s m h k = full (m * s) (mul-le-mul (le-of-lt k) h)
 
 -- ---- the answer
 module _ (s m : ℕ) where
-  -- what is answered with a number has that number
-  own : (n : ℕ) → numberOf (widthAnswer s m n) ≡ n
-  own zero = refl
-  own (suc n) = refl
-
   pub width-promised : {r : Width} → r ≡ bracketWidthOf s m → BracketWidthAnswered s m r
-  width-promised e = answers numberOf (widthReplies s) (widthAnswer s m) own e
+  width-promised e = value-promised numberOf (widthReplies s) _ Refused refl (λ n. refl) e
 
   pub width-answered : {r : Width} → BracketWidthAnswered s m r → r ≡ bracketWidthOf s m
   width-answered p = answered numberOf (widthReplies s) (widthAnswer s m) p

@@ -1,11 +1,11 @@
 -- The shifts of the modes, and the width of a bracket. Definitions only.
 -- Written from document 01, "Choosing colours": "`bracket_width`: max·shift/16, rounded with halves up, clamped to 1..16", and refusal 1.
-use Prim.Native.Nat.{ℕ, zero, suc, _+_, _*_, _/_, min, max}
+use Prim.Native.Nat.{ℕ, _+_, _*_, _/_, min, max}
 use mathlib.Core.Bool.{Bool, not, _||_}
 use mathlib.Core.List.{List, [], _∷_}
 use lib.Dec.{eqb}
 use Rattle.replies.specs.Replies.{Reply, _if_, firstReply}
-use Rattle.replies.specs.Answers.{Answers}
+use Rattle.replies.specs.Answers.{Answers, valueOr}
 use Rattle.mixing.specs.declared.Width.{Width}
 use Rattle.mixing.specs.declared.Width.the-variants.{Of, Refused}
 
@@ -37,8 +37,7 @@ widthReplies shift = (1 if not (isShift shift)) ∷ []
 
 -- what is answered with a number: the width with 0, and else the number alone
 abbrev pub widthAnswer : (shift m : ℕ) → ℕ → Width
-widthAnswer shift m zero = Of (widthOf shift m)
-widthAnswer shift m (suc n) = Refused (suc n)
+widthAnswer shift m = valueOr (Of (widthOf shift m)) Refused
 
 -- what `bracket_width` promises of its answer r
 abbrev pub BracketWidthAnswered : (shift m : ℕ) → Width → Type 0

@@ -14,7 +14,7 @@ use lib.Ieee.{Float, nan, inf, fin, up, down, binary32, round, add, div, ofInt, 
 use lib.Ieee.Exact.{HasValue}
 use lib.Ieee.Fits.{and-l, and-r}
 use Rattle.replies.specs.Replies.{_if_, firstReply, Lowest}
-use Rattle.replies.proofs.AnswerLaws.{answered, answers}
+use Rattle.replies.proofs.AnswerLaws.{answered, value-number, value-promised}
 use Rattle.replies.proofs.LowestLaws.{lowest-is}
 use Rattle.lists.proofs.Computed.{all, all-at}
 use Rattle.floats.specs.Over.{over, wholef}
@@ -51,13 +51,8 @@ sixty-four = refl
 
 -- ---- the answer
 module _ (k x y : ℕ) where
-  -- what is answered with a number has that number
-  own : (n : ℕ) → numberOf (thresholdAnswer k x y n) ≡ n
-  own zero = refl
-  own (suc n) = refl
-
   pub threshold-promised : {r : Thresholded} → r ≡ thresholdOf k x y → OrderedThresholdAnswered k x y r
-  threshold-promised e = answers numberOf (thresholdReplies k) (thresholdAnswer k x y) own e
+  threshold-promised e = value-promised numberOf (thresholdReplies k) _ Refused refl (λ n. refl) e
 
   pub threshold-answered : {r : Thresholded} → OrderedThresholdAnswered k x y r → r ≡ thresholdOf k x y
   threshold-answered p = answered numberOf (thresholdReplies k) (thresholdAnswer k x y) p
@@ -65,7 +60,7 @@ module _ (k x y : ℕ) where
   -- 1 exactly above 10, 9 exactly for 0, 9 and 10
   pub number-is : numberOf (thresholdOf k x y) ≡ cond (leb k 10) (cond (leb 1 k && leb k 8) 0 9) 1
   number-is =
-      own (firstReply (thresholdReplies k))
+      value-number numberOf (thresholdReplies k) _ Refused refl (λ n. refl) (firstReply (thresholdReplies k))
       ∙ (λ i. firstReply ((1 if not (kind-is k i)) ∷ (9 if not (ordered-is k i)) ∷ []))
       ∙ other (leb k 10) (leb 1 k && leb k 8)
     where

@@ -1,14 +1,14 @@
 -- The threshold of a place, and what `ordered_threshold` promises. Definitions only.
 -- Written from document 01, "Choosing colours": "Threshold = (entry + 0.5) / n [..]; row y, column x, both reduced to the matrix size";
 -- each operation is rounded to an f32, in the Rust's order. Refusals 1 and 9 are those of "Bounds and replies".
-use Prim.Native.Nat.{ℕ, zero, suc, _%_}
+use Prim.Native.Nat.{ℕ, _%_}
 use mathlib.Core.Bool.{not}
 use mathlib.Core.List.{List, [], _∷_}
 use lib.IntN.{pos}
 use lib.ListN.{length, getD}
 use lib.Ieee.{Float, nan, binary32, add, div, ofInt}
 use Rattle.replies.specs.Replies.{Reply, _if_, firstReply}
-use Rattle.replies.specs.Answers.{Answers}
+use Rattle.replies.specs.Answers.{Answers, valueOr}
 use Rattle.floats.specs.Over.{over, wholef}
 use Rattle.patterns.specs.declared.Thresholded.{Thresholded}
 use Rattle.patterns.specs.declared.Thresholded.the-variants.{At, Refused}
@@ -49,8 +49,7 @@ thresholdReplies kind = (1 if not (isKind kind)) ∷ (9 if not (isOrdered kind))
 
 -- what is answered with a number: the threshold with 0, and else the number alone
 abbrev pub thresholdAnswer : (kind x y : ℕ) → ℕ → Thresholded
-thresholdAnswer kind x y zero = At (thresholdAt kind x y)
-thresholdAnswer kind x y (suc n) = Refused (suc n)
+thresholdAnswer kind x y = valueOr (At (thresholdAt kind x y)) Refused
 
 -- what `ordered_threshold` promises of its answer r
 abbrev pub OrderedThresholdAnswered : (kind x y : ℕ) → Thresholded → Type 0

@@ -1,7 +1,7 @@
 -- What `quantize_pixels` answers, and what its three lent buffers hold afterwards. Definitions only.
 -- Written from document 01, "Choosing colours" ("A palette index is the first entry equal to the chosen reduced colour. Transparent pixels get
 -- index 0 and `TRANSPARENT`", "max is the palette's length in `quantize_pixels`", "`quantize_pixels` uses origin 0") and "Bounds and replies".
-use Prim.Native.Nat.{ℕ, zero, suc, _*_, _/_, _%_, _<_}
+use Prim.Native.Nat.{ℕ, _*_, _/_, _%_, _<_}
 use mathlib.Core.Path.{_≡_}
 use mathlib.Core.Bool.{Bool, cond, not, _||_}
 use mathlib.Core.List.{List, [], _∷_}
@@ -11,7 +11,7 @@ use lib.Ieee.{Float}
 use Rattle.lists.specs.Gather.{gather}
 use Rattle.lists.specs.First.{firstThat}
 use Rattle.replies.specs.Replies.{Reply, _if_, after}
-use Rattle.replies.specs.Answers.{Answers}
+use Rattle.replies.specs.Answers.{Answers, valueOr}
 use Rattle.color.specs.declared.ReducedColor.{ReducedColor}
 use Rattle.color.specs.Color.{reducedAt, sameReduced}
 use Rattle.picture.specs.Bounds.{sizeWrong, lentWrong}
@@ -142,8 +142,7 @@ numberOf (Refused n) = n
 
 -- what is answered with a number
 abbrev pub answerOf : ℕ → Quantization
-answerOf zero = Accepted
-answerOf (suc n) = Refused (suc n)
+answerOf = valueOr Accepted Refused
 
 -- what `quantize_pixels` answers and leaves: r, and the three buffers after its number, which held `indices₀`, `out₀` and `cells₀`
 pub record Quantized (q : Commission) (indices₀ out₀ : List ℕ) (cells₀ : List Float) (r : Quantization) (indices out : List ℕ) (cells : List Float)

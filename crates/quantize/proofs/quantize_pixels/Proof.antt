@@ -1,11 +1,12 @@
 -- `quantize::quantize_pixels` meets its contract: a refusal is answered before any store, and an acceptance after the work. Assumes nothing.
-use mathlib.Core.Path.{refl, sym, _∙_, ap}
+use mathlib.Core.Path.{refl, sym, _∙_}
 use mathlib.Core.List.{List}
 use Rattle.replies.specs.Replies.{Reply}
 use Rattle.replies.proofs.ReplyLaws.{after-refused}
-use Rattle.replies.proofs.AnswerLaws.{answers}
-use Rattle.quantize.specs.Quantize.{Commission, commission, lengthsOf, replies, numberOf, answerOf}
-use Rattle.quantize.proofs.FittingLaws.{own-number, refused, accepted}
+use Rattle.replies.proofs.AnswerLaws.{value-refused, value-granted}
+use Rattle.quantize.specs.declared.Quantization.the-variants.{Refused}
+use Rattle.quantize.specs.Quantize.{Commission, commission, lengthsOf, replies, numberOf}
+use Rattle.quantize.proofs.FittingLaws.{accepted}
 use borrow.Author.Needs.{needs}
 use Rattle.quantize.proofs.quantize_pixels.Statement.{statement}
 use Rattle.quantize.proofs.quantize_pixels.Tie as tie
@@ -29,7 +30,7 @@ refusal-requires c κs = search needs
 returns : tie.Need-returns
 returns c =
     let n = c .before .refusal in record {
-      answer = answers numberOf (rows (start (c .before))) answerOf own-number (refused (n .result) (c .if1 .taken) ∙ ap answerOf (n .ensures));
+      answer = value-refused numberOf (rows (start (c .before))) _ Refused refl (λ m. refl) (n .ensures) (c .if1 .taken);
       index-buffer = after-refused (n .result) _ _ (c .if1 .taken);
       picture = after-refused (n .result) _ _ (c .if1 .taken);
       cell-buffer = after-refused (n .result) _ _ (c .if1 .taken);
@@ -59,7 +60,7 @@ returns-2 c =
     let k = c .before .before .before .before .before .before .before in
     let e = k .before .before .before .before .before in
     record {
-      answer = answers numberOf (rows (start (e .before))) answerOf own-number (ap answerOf (sym (e .if1 .left) ∙ e .before .refusal .ensures));
+      answer = value-granted numberOf (rows (start (e .before))) _ Refused refl (λ m. refl) (sym (e .before .refusal .ensures) ∙ e .if1 .left) refl;
       index-buffer = k .quantize .ensures .0;
       picture = k .quantize .ensures .1;
       cell-buffer = k .quantize .ensures .2;
