@@ -11,5 +11,6 @@ pub left-by : {A B : Type 0} (left : A → B) {x y : A} → x ≡ y → left y �
 left-by left e = sym (ap left e)
 
 -- where a call is asked of three bytes as an opaque colour, its answer x is that for the bytes
-pub of-rgb : {A : Type 0} (answer : NormalizedColor → A) (color : NormalizedColor) (r g b : ℕ) {x y : A} → color .0 ≡ rgba r g b 255 → x ≡ answer color → x ≡ y → answer (opaqueRgb r g b) ≡ y
+pub of-rgb : {A : Type 0} (answer : NormalizedColor → A) (color : NormalizedColor) (r g b : ℕ) {x y : A} → color .0 ≡ rgba r g b 255 → x ≡ answer color
+    → x ≡ y → answer (opaqueRgb r g b) ≡ y
 of-rgb answer color r g b c p q = sym (ap (λ (u : Rgba8888). answer (record { 0 = u })) c) ∙ sym p ∙ q

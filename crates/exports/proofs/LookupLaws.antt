@@ -173,7 +173,8 @@ pub bracket-lowest : (reduced normalized : List ℕ) (oklab : List Float) (r g b
     → Lowest (badgeBracketReplies reduced normalized oklab dark light) (badgeOrderedBracket reduced normalized oklab r g b width dark light ratio .0)
 unfolding bracketRgb
 bracket-lowest reduced normalized oklab r g b width dark light ratio =
-    subst (Lowest (badgeBracketReplies reduced normalized oklab dark light)) (sym (number (firstReply (badgeBracketReplies reduced normalized oklab dark light))))
+    subst (Lowest (badgeBracketReplies reduced normalized oklab dark light))
+    (sym (number (firstReply (badgeBracketReplies reduced normalized oklab dark light))))
     (front-lowest 2 (not (isFour dark && isFour light)) (listReplies reduced normalized oklab) tt tt)
   where
     number : (n : ℕ) → bracketLeft dark light ratio (bracketAnswer reduced normalized oklab (opaqueRgb r g b) width n) .0 ≡ n

@@ -36,7 +36,8 @@ candidates-by-case x was {r} h e =
     (λ i. counting (h .bytes i) (h .floats i) was ((sym e ∙ h .answer .answer) i)) ∙ by-number (colors.numberOf r) _ _
     ∙ ap (λ (n : ℕ). (n, placesAfter x n, oklabAfter x n, after n (length (candidatesIn x)) was)) (h .answer .number)
   where
-    by-number : (n : ℕ) (bytes : List ℕ) (floats : List Float) → counting bytes floats was (answerOf x n) ≡ (n, bytes, floats, after n (length (candidatesIn x)) was)
+    by-number : (n : ℕ) (bytes : List ℕ) (floats : List Float)
+        → counting bytes floats was (answerOf x n) ≡ (n, bytes, floats, after n (length (candidatesIn x)) was)
     by-number zero bytes floats = refl
     by-number (suc n) bytes floats = refl
 

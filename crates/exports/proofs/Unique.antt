@@ -1,5 +1,4 @@
 -- The promises of the C functions leave one result each: one answer, and one content of each pointer and buffer that is lent to be written. Assumes nothing.
-use mathlib.Core.Path.{_≡_}
 use mathlib.Core.List.{List}
 use Prim.Native.Nat.{ℕ}
 use lib.Ieee.{Float}
@@ -8,46 +7,47 @@ use Rattle.replies.proofs.UniqueLaws.{equal-only}
 use Rattle.candidates.specs.Calls.{Asked}
 use Rattle.quantize.specs.Quantize.{Commission}
 use Rattle.dither.specs.Mode as mode
-use Rattle.exports.specs.Answers.{badgeToOklab, badgeOklabSqdist, badgeOrderedThreshold, badgeBracketWidth, badgeLerp}
-use Rattle.exports.specs.Lookups.{badgeNearest, badgeNearestTwo, badgeOrderedBracket, badgePick}
-use Rattle.exports.specs.Pictures.{badgeCandidateColorsIn, badgeQuantizePixels, badgeDitherToMode}
+use Rattle.exports.specs.Answers.{PromisedToOklab, PromisedOklabSqdist, PromisedOrderedThreshold, PromisedBracketWidth, PromisedLerp}
+use Rattle.exports.specs.Lookups.{PromisedNearest, PromisedNearestTwo, PromisedOrderedBracket, PromisedPick}
+use Rattle.exports.specs.Pictures.{PromisedCandidateColorsIn, PromisedQuantizePixels, PromisedDitherToMode}
 
-pub badge-to-oklab-unique : (r g b : ℕ) → Unique (λ (x : Float × Float × Float). x ≡ badgeToOklab r g b)
+pub badge-to-oklab-unique : (r g b : ℕ) → Unique (λ (x : Float × Float × Float). PromisedToOklab r g b x)
 badge-to-oklab-unique r g b = equal-only _
 
-pub badge-oklab-sqdist-unique : (l1 a1 b1 l2 a2 b2 was : Float) → Unique (λ (x : ℕ × Float). x ≡ badgeOklabSqdist l1 a1 b1 l2 a2 b2 was)
+pub badge-oklab-sqdist-unique : (l1 a1 b1 l2 a2 b2 was : Float) → Unique (λ (x : ℕ × Float). PromisedOklabSqdist l1 a1 b1 l2 a2 b2 was x)
 badge-oklab-sqdist-unique l1 a1 b1 l2 a2 b2 was = equal-only _
 
-pub badge-ordered-threshold-unique : (kind column row : ℕ) (was : Float) → Unique (λ (x : ℕ × Float). x ≡ badgeOrderedThreshold kind column row was)
+pub badge-ordered-threshold-unique : (kind column row : ℕ) (was : Float) → Unique (λ (x : ℕ × Float). PromisedOrderedThreshold kind column row was x)
 badge-ordered-threshold-unique kind column row was = equal-only _
 
-pub badge-bracket-width-unique : (shift max was : ℕ) → Unique (λ (x : ℕ × ℕ). x ≡ badgeBracketWidth shift max was)
+pub badge-bracket-width-unique : (shift max was : ℕ) → Unique (λ (x : ℕ × ℕ). PromisedBracketWidth shift max was x)
 badge-bracket-width-unique shift max was = equal-only _
 
-pub badge-lerp-unique : (r1 g1 b1 r2 g2 b2 r g b clamp : ℕ) → Unique (λ (x : Float). x ≡ badgeLerp r1 g1 b1 r2 g2 b2 r g b clamp)
+pub badge-lerp-unique : (r1 g1 b1 r2 g2 b2 r g b clamp : ℕ) → Unique (λ (x : Float). PromisedLerp r1 g1 b1 r2 g2 b2 r g b clamp x)
 badge-lerp-unique r1 g1 b1 r2 g2 b2 r g b clamp = equal-only _
 
 module _ (reduced normalized : List ℕ) (oklab : List Float) (r g b : ℕ) where
-  pub badge-nearest-unique : (was : ℕ) → Unique (λ (x : ℕ × ℕ). x ≡ badgeNearest reduced normalized oklab r g b was)
+  pub badge-nearest-unique : (was : ℕ) → Unique (λ (x : ℕ × ℕ). PromisedNearest reduced normalized oklab r g b was x)
   badge-nearest-unique was = equal-only _
 
-  pub badge-nearest-two-unique : (width first second : ℕ) → Unique (λ (x : ℕ × ℕ × ℕ). x ≡ badgeNearestTwo reduced normalized oklab r g b width first second)
+  pub badge-nearest-two-unique : (width first second : ℕ) → Unique (λ (x : ℕ × ℕ × ℕ). PromisedNearestTwo reduced normalized oklab r g b width first second x)
   badge-nearest-two-unique width first second = equal-only _
 
   pub badge-ordered-bracket-unique : (width : ℕ) (dark light : List ℕ) (ratio : Float)
-      → Unique (λ (x : ℕ × List ℕ × List ℕ × Float). x ≡ badgeOrderedBracket reduced normalized oklab r g b width dark light ratio)
+      → Unique (λ (x : ℕ × List ℕ × List ℕ × Float). PromisedOrderedBracket reduced normalized oklab r g b width dark light ratio x)
   badge-ordered-bracket-unique width dark light ratio = equal-only _
 
-pub badge-pick-unique : (dark light : List ℕ) (ratio : Float) (kind column row : ℕ) (chosen : List ℕ) → Unique (λ (x : ℕ × List ℕ). x ≡ badgePick dark light ratio kind column row chosen)
+pub badge-pick-unique : (dark light : List ℕ) (ratio : Float) (kind column row : ℕ) (chosen : List ℕ)
+    → Unique (λ (x : ℕ × List ℕ). PromisedPick dark light ratio kind column row chosen x)
 badge-pick-unique dark light ratio kind column row chosen = equal-only _
 
-pub badge-candidate-colors-in-unique : (asked : Asked) (count : ℕ) → Unique (λ (x : ℕ × List ℕ × List Float × ℕ). x ≡ badgeCandidateColorsIn asked count)
+pub badge-candidate-colors-in-unique : (asked : Asked) (count : ℕ) → Unique (λ (x : ℕ × List ℕ × List Float × ℕ). PromisedCandidateColorsIn asked count x)
 badge-candidate-colors-in-unique asked count = equal-only _
 
 pub badge-quantize-pixels-unique : (q : Commission) (indices out : List ℕ) (cells : List Float)
-    → Unique (λ (x : ℕ × List ℕ × List ℕ × List Float). x ≡ badgeQuantizePixels q indices out cells)
+    → Unique (λ (x : ℕ × List ℕ × List ℕ × List Float). PromisedQuantizePixels q indices out cells x)
 badge-quantize-pixels-unique q indices out cells = equal-only _
 
 pub badge-dither-to-mode-unique : (q : mode.Commission) (was : mode.Buffers) (count tile : ℕ)
-    → Unique (λ (x : ℕ × mode.Buffers × ℕ × ℕ). x ≡ badgeDitherToMode q was count tile)
+    → Unique (λ (x : ℕ × mode.Buffers × ℕ × ℕ). PromisedDitherToMode q was count tile x)
 badge-dither-to-mode-unique q was count tile = equal-only _

@@ -1,7 +1,8 @@
 -- What the lookups and `pick` answer through the C interface and leave behind their pointers and in their buffers: the answer's on acceptance, and
--- otherwise what was there; the number is the one that the answer's own definition gives (`numberOf` and the three beside it). Each contract says
--- that the result is the definition that has the call's name. Definitions only.
+-- otherwise what was there; the number is the one that the answer's own definition gives (`numberOf` and the three beside it). The result is the
+-- definition that has the call's name, and that it is so is the call's promise. Definitions only.
 -- Written from document 01, "Bounds and replies": "The lowest number that applies is given", "A refusal returns no colour", "all unchanged".
+use mathlib.Core.Path.{_≡_}
 use Prim.Native.Nat.{ℕ}
 use mathlib.Core.List.{List, [], _∷_}
 use mathlib.Core.Bool.{Bool, not, _&&_}
@@ -36,6 +37,9 @@ abbrev pub badgeNearest : (reduced normalized : List ℕ) → List Float → (r 
 badgeNearest reduced normalized oklab r g b was =
     foundLeft was (nearestAnswer reduced normalized oklab (opaqueRgb r g b) (firstReply (listReplies reduced normalized oklab)))
 
+abbrev pub PromisedNearest : (reduced normalized : List ℕ) → List Float → (r g b was : ℕ) → ℕ × ℕ → Type 0
+PromisedNearest reduced normalized oklab r g b was left = left ≡ badgeNearest reduced normalized oklab r g b was
+
 -- ---- `badge_nearest_two`: the number, and the positions of the first and of the second
 -- a second's position; that of the first where there is no second
 abbrev pub secondOr : Second → ℕ → ℕ
@@ -53,6 +57,9 @@ twoLeft first second (two.Refused n) = (numberOfTwo (two.Refused n), first, seco
 abbrev pub badgeNearestTwo : (reduced normalized : List ℕ) → List Float → (r g b width first second : ℕ) → ℕ × ℕ × ℕ
 badgeNearestTwo reduced normalized oklab r g b width first second =
     twoLeft first second (nearestTwoAnswer reduced normalized oklab (opaqueRgb r g b) width (firstReply (listReplies reduced normalized oklab)))
+
+abbrev pub PromisedNearestTwo : (reduced normalized : List ℕ) → List Float → (r g b width first second : ℕ) → ℕ × ℕ × ℕ → Type 0
+PromisedNearestTwo reduced normalized oklab r g b width first second left = left ≡ badgeNearestTwo reduced normalized oklab r g b width first second
 
 -- ---- `badge_ordered_bracket`: the number, the bytes of dark and of light, and the share of light
 -- a colour is four bytes
@@ -76,6 +83,11 @@ abbrev pub badgeOrderedBracket : (reduced normalized : List ℕ) → List Float 
 badgeOrderedBracket reduced normalized oklab r g b width dark light ratio =
     bracketLeft dark light ratio (bracketRgb reduced normalized oklab r g b width dark light)
 
+abbrev pub PromisedOrderedBracket : (reduced normalized : List ℕ) → List Float → (r g b width : ℕ) → (dark light : List ℕ) → Float
+    → ℕ × List ℕ × List ℕ × Float → Type 0
+PromisedOrderedBracket reduced normalized oklab r g b width dark light ratio left =
+    left ≡ badgeOrderedBracket reduced normalized oklab r g b width dark light ratio
+
 -- ---- `badge_pick`: the number, and the bytes of the colour picked
 -- the numbers, and when each applies: those of `pick`, and 3 for a wrong length of dark, light or chosen
 abbrev pub badgePickReplies : (dark light : List ℕ) → ℕ → (chosen : List ℕ) → List Reply
@@ -96,3 +108,6 @@ pickedLeft was (picked.Refused n) = (numberOfPicked (picked.Refused n), was)
 
 abbrev pub badgePick : (dark light : List ℕ) → Float → (kind x y : ℕ) → List ℕ → ℕ × List ℕ
 badgePick dark light ratio kind x y chosen = pickedLeft chosen (pickRooms dark light ratio kind x y chosen)
+
+abbrev pub PromisedPick : (dark light : List ℕ) → Float → (kind x y : ℕ) → List ℕ → ℕ × List ℕ → Type 0
+PromisedPick dark light ratio kind x y chosen left = left ≡ badgePick dark light ratio kind x y chosen

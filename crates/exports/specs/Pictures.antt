@@ -1,6 +1,7 @@
--- What the picture calls answer through the C interface and leave in their buffers and behind their pointers, and what is lent to them. Each contract says
--- that the result is the definition that has the call's name. Definitions only.
+-- What the picture calls answer through the C interface and leave in their buffers and behind their pointers, and what is lent to them. The result is the
+-- definition that has the call's name, and that it is so is the call's promise. Definitions only.
 -- Written from document 01, "Bounds and replies": "On acceptance the candidate rooms hold the list (counted in the answer)", "all unchanged".
+use mathlib.Core.Path.{_≡_}
 use Prim.Native.Nat.{ℕ}
 use mathlib.Core.Bool.{cond}
 use mathlib.Core.List.{List}
@@ -30,11 +31,17 @@ badgeCandidateColorsIn x count =
     let n = firstReply (replies x) in
     (n, placesAfter x n, oklabAfter x n, after n (length (candidatesIn x)) count)
 
+abbrev pub PromisedCandidateColorsIn : Asked → ℕ → ℕ × List ℕ × List Float × ℕ → Type 0
+PromisedCandidateColorsIn x count left = left ≡ badgeCandidateColorsIn x count
+
 -- ---- `badge_quantize_pixels`: the number, the indices, the picture and the cells
 abbrev pub badgeQuantizePixels : Commission → (indices out : List ℕ) → List Float → ℕ × List ℕ × List ℕ × List Float
 badgeQuantizePixels q indices out cells =
     let n = firstReply (quantize.replies q indices out cells) in
     (n, after n (indicesOf q) indices, after n (pixelsOf q) out, after n (cellsAfter (quantizing q) cells) cells)
+
+abbrev pub PromisedQuantizePixels : Commission → (indices out : List ℕ) → List Float → ℕ × List ℕ × List ℕ × List Float → Type 0
+PromisedQuantizePixels q indices out cells left = left ≡ badgeQuantizePixels q indices out cells
 
 -- ---- `badge_dither_to_mode`: the number, the buffers, how many candidates there are, and the first tile over its limit
 -- colour zero: absent where the flag is 0, else the reduced colour of four bytes
@@ -60,3 +67,6 @@ abbrev pub badgeDitherToMode : mode.Commission → Buffers → (count tile : ℕ
 badgeDitherToMode q was count tile =
     let n = firstReply (mode.replies q was) in
     (n, buffersAfter q was n, leaves n (length (candidateList q)) (length (candidateList q)) count, leaves n tile (tileOver q) tile)
+
+abbrev pub PromisedDitherToMode : mode.Commission → Buffers → (count tile : ℕ) → ℕ × Buffers × ℕ × ℕ → Type 0
+PromisedDitherToMode q was count tile left = left ≡ badgeDitherToMode q was count tile

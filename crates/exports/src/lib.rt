@@ -26,9 +26,9 @@ ghost use lib.ListN.{length};
 ghost use Rattle.color.specs.Color.{reducedAt, bytesOf};
 ghost use Rattle.dither.specs.Mode as mode;
 ghost use Rattle.quantize.specs.Quantize.{commission};
-ghost use Rattle.exports.specs.Answers.{badgeToOklab, badgeOklabSqdist, badgeOrderedThreshold, badgeBracketWidth, badgeLerp};
-ghost use Rattle.exports.specs.Lookups.{badgeNearest, secondPosition, badgeNearestTwo, badgeOrderedBracket, badgePick};
-ghost use Rattle.exports.specs.Pictures.{lentTo, badgeCandidateColorsIn, badgeQuantizePixels, zeroOf, settingsOf, badgeDitherToMode};
+ghost use Rattle.exports.specs.Answers.{PromisedToOklab, PromisedOklabSqdist, PromisedOrderedThreshold, PromisedBracketWidth, PromisedLerp};
+ghost use Rattle.exports.specs.Lookups.{PromisedNearest, secondPosition, PromisedNearestTwo, PromisedOrderedBracket, PromisedPick};
+ghost use Rattle.exports.specs.Pictures.{lentTo, PromisedCandidateColorsIn, PromisedQuantizePixels, zeroOf, settingsOf, PromisedDitherToMode};
 
 // The Oklab colour of a colour.
 #[no_mangle]
@@ -40,7 +40,7 @@ pub extern "C" fn badge_to_oklab(
     out_a: &mut f32,
     out_b: &mut f32,
 )
-    ensures { λ _. ⌜ (now (lightness .exit), now («out_a» .exit), now («out_b» .exit)) ≡ badgeToOklab r g b ⌝ }
+    ensures { λ _. ⌜ PromisedToOklab r g b (now (lightness .exit), now («out_a» .exit), now («out_b» .exit)) ⌝ }
 {
     let o = conversion::to_oklab(NormalizedColor::new(r, g, b, 255));
     *lightness = o.l;
@@ -59,7 +59,7 @@ pub extern "C" fn badge_oklab_sqdist(
     b2: f32,
     distance: &mut f32,
 ) -> u32
-    ensures { λ n. ⌜ (n, now (distance .exit)) ≡ badgeOklabSqdist l1 a1 b1 l2 a2 b2 (now (distance .entry)) ⌝ }
+    ensures { λ n. ⌜ PromisedOklabSqdist l1 a1 b1 l2 a2 b2 (now (distance .entry)) (n, now (distance .exit)) ⌝ }
 {
     let p = Oklab {
         l: l1,
@@ -83,7 +83,7 @@ pub extern "C" fn badge_oklab_sqdist(
 // The threshold of a kind at column x and row y; 1 and 9.
 #[no_mangle]
 pub extern "C" fn badge_ordered_threshold(kind: u32, x: u32, y: u32, threshold: &mut f32) -> u32
-    ensures { λ n. ⌜ (n, now (threshold .exit)) ≡ badgeOrderedThreshold kind x y (now (threshold .entry)) ⌝ }
+    ensures { λ n. ⌜ PromisedOrderedThreshold kind x y (now (threshold .entry)) (n, now (threshold .exit)) ⌝ }
 {
     match patterns::ordered_threshold(kind, x, y) {
         Thresholded::At(t) => {
@@ -97,7 +97,7 @@ pub extern "C" fn badge_ordered_threshold(kind: u32, x: u32, y: u32, threshold: 
 // How many candidates `badge_nearest_two` considers; 1.
 #[no_mangle]
 pub extern "C" fn badge_bracket_width(shift: u32, max: u64, width: &mut u64) -> u32
-    ensures { λ n. ⌜ (n, now (width .exit)) ≡ badgeBracketWidth shift max (now (width .entry)) ⌝ }
+    ensures { λ n. ⌜ PromisedBracketWidth shift max (now (width .entry)) (n, now (width .exit)) ⌝ }
 {
     match mixing::bracket_width(shift, max) {
         Width::Of(w) => {
@@ -122,7 +122,7 @@ pub extern "C" fn badge_lerp(
     b: u8,
     clamp: u32,
 ) -> f32
-    ensures { λ t. ⌜ t ≡ badgeLerp r1 g1 b1 r2 g2 b2 r g b clamp ⌝ }
+    ensures { λ t. ⌜ PromisedLerp r1 g1 b1 r2 g2 b2 r g b clamp t ⌝ }
 {
     let c1 = NormalizedColor::new(r1, g1, b1, 255);
     let c2 = NormalizedColor::new(r2, g2, b2, 255);
@@ -143,7 +143,8 @@ pub extern "C" fn badge_nearest(
     b: u8,
     position: &mut u32,
 ) -> u32
-    ensures { λ n. ⌜ (n, now (position .exit)) ≡ badgeNearest (now (reduced .entry)) (now (normalized .entry)) (now (oklab .entry)) r g b (now (position .entry)) ⌝ }
+    ensures { λ n. ⌜ PromisedNearest (now (reduced .entry)) (now (normalized .entry)) (now (oklab .entry)) r g b (now (position .entry))
+        (n, now (position .exit)) ⌝ }
 {
     let color = NormalizedColor::new(r, g, b, 255);
     match lookup::flat_nearest(reduced, normalized, oklab, color) {
@@ -179,7 +180,8 @@ pub extern "C" fn badge_nearest_two(
     first: &mut u32,
     second: &mut u32,
 ) -> u32
-    ensures { λ n. ⌜ (n, now (first .exit), now (second .exit)) ≡ badgeNearestTwo (now (reduced .entry)) (now (normalized .entry)) (now (oklab .entry)) r g b width (now (first .entry)) (now (second .entry)) ⌝ }
+    ensures { λ n. ⌜ PromisedNearestTwo (now (reduced .entry)) (now (normalized .entry)) (now (oklab .entry)) r g b width
+        (now (first .entry)) (now (second .entry)) (n, now (first .exit), now (second .exit)) ⌝ }
 {
     let color = NormalizedColor::new(r, g, b, 255);
     match lookup::flat_nearest_two(reduced, normalized, oklab, color, width) {
@@ -224,8 +226,8 @@ pub extern "C" fn badge_ordered_bracket(
     light: &mut [u8],
     ratio: &mut f32,
 ) -> u32
-    ensures { λ n. ⌜ (n, now (dark .exit), now (light .exit), now (ratio .exit))
-        ≡ badgeOrderedBracket (now (reduced .entry)) (now (normalized .entry)) (now (oklab .entry)) r g b width (now (dark .entry)) (now (light .entry)) (now (ratio .entry)) ⌝ }
+    ensures { λ n. ⌜ PromisedOrderedBracket (now (reduced .entry)) (now (normalized .entry)) (now (oklab .entry)) r g b width
+        (now (dark .entry)) (now (light .entry)) (now (ratio .entry)) (n, now (dark .exit), now (light .exit), now (ratio .exit)) ⌝ }
 {
     if !((dark.len() == 4) & (light.len() == 4)) {
         return 3;
@@ -253,7 +255,7 @@ pub extern "C" fn badge_pick(
     y: u32,
     chosen: &mut [u8],
 ) -> u32
-    ensures { λ n. ⌜ (n, now (chosen .exit)) ≡ badgePick (now (dark .entry)) (now (light .entry)) ratio kind x y (now (chosen .entry)) ⌝ }
+    ensures { λ n. ⌜ PromisedPick (now (dark .entry)) (now (light .entry)) ratio kind x y (now (chosen .entry)) (n, now (chosen .exit)) ⌝ }
 {
     if kind > 10 {
         return 1;
@@ -290,8 +292,9 @@ pub extern "C" fn badge_candidate_colors_in(
     oklab: &mut [f32],
     count: &mut u32,
 ) -> u32
-    ensures { λ n. ⌜ (let x = lentTo shift width height (now (reduction .entry)) (now (scale .entry)) (now (pixels .entry)) (now (places .entry)) (now (oklab .entry)) in
-        (n, now (places .exit), now (oklab .exit), now (count .exit)) ≡ badgeCandidateColorsIn x (now (count .entry))) ⌝ }
+    ensures { λ n. ⌜ (let x = lentTo shift width height (now (reduction .entry)) (now (scale .entry)) (now (pixels .entry))
+        (now (places .entry)) (now (oklab .entry)) in
+        PromisedCandidateColorsIn x (now (count .entry)) (n, now (places .exit), now (oklab .exit), now (count .exit))) ⌝ }
 {
     match candidates::candidate_colors_in(
         shift,
@@ -327,7 +330,8 @@ pub extern "C" fn badge_quantize_pixels(
     cells: &mut [f32],
 ) -> u32
     ensures { λ n. ⌜ (let q = commission shift kind width height (now (reduction .entry)) (now (scale .entry)) (now (palette .entry)) (now (pixels .entry)) in
-        (n, now (indices .exit), now (out .exit), now (cells .exit)) ≡ badgeQuantizePixels q (now (indices .entry)) (now (out .entry)) (now (cells .entry))) ⌝ }
+        PromisedQuantizePixels q (now (indices .entry)) (now (out .entry)) (now (cells .entry))
+        (n, now (indices .exit), now (out .exit), now (cells .exit))) ⌝ }
 {
     match quantize::quantize_pixels(
         shift,
@@ -384,11 +388,12 @@ pub extern "C" fn badge_dither_to_mode(
     count: &mut u32,
     tile: &mut u32,
 ) -> u32
-    ensures { λ n. ⌜ (let q = mode.commission (settingsOf shift kind width height «origin_x» «origin_y» «tile_width» «tile_height» limit (zeroOf «has_zero» «zero_r» «zero_g» «zero_b» «zero_a»))
+    ensures { λ n. ⌜ (let zero = zeroOf «has_zero» «zero_r» «zero_g» «zero_b» «zero_a» in
+        let q = mode.commission (settingsOf shift kind width height «origin_x» «origin_y» «tile_width» «tile_height» limit zero)
         (now (reduction .entry)) (now (scale .entry)) (now (pixels .entry)) in
         let was = mode.buffers (now (places .entry)) (now (oklab .entry)) (now (out .entry)) (now (cells .entry)) in
         let then = mode.buffers (now (places .exit)) (now (oklab .exit)) (now (out .exit)) (now (cells .exit)) in
-        (n, then, now (count .exit), now (tile .exit)) ≡ badgeDitherToMode q was (now (count .entry)) (now (tile .entry))) ⌝ }
+        PromisedDitherToMode q was (now (count .entry)) (now (tile .entry)) (n, then, now (count .exit), now (tile .exit))) ⌝ }
 {
     let settings = Settings {
         kind,

@@ -31,7 +31,8 @@ cell-at k xs zs i h l =
     record { is = ap (λ (ys : List Float). getD ys i nan) (h .is) ∙ read zs i q; small = h .small i q }
 
 -- a send to a place
-pub cells-send : (xs : List Float) (zs : List ℤ) (i : ℕ) (y v : Float) (r : ℤ) (w : ℕ) → Cells 65536 xs zs → i < length xs → y ≡ wholef r → natAbs r ≤ 255 → v ≡ sixteenths (pos w) → 0 < w → w ≤ 16
+pub cells-send : (xs : List Float) (zs : List ℤ) (i : ℕ) (y v : Float) (r : ℤ) (w : ℕ) → Cells 65536 xs zs → i < length xs → y ≡ wholef r → natAbs r ≤ 255
+    → v ≡ sixteenths (pos w) → 0 < w → w ≤ 16
     → set xs i (add binary32 (getD xs i nan) (mul binary32 y v)) ≡ map sixteenths (set zs i (getD zs i (pos 0) +ℤ r *ℤ pos w))
 cells-send xs zs i y v r w h l p R q W L =
     ap (λ (x : Float). set xs i x) (send (getD xs i nan) y v (getD zs i (pos 0)) r w (cell-at 65536 xs zs i h l) p R q W L)

@@ -27,7 +27,9 @@ small n h = omega arith
 
 module _ {a b c a' b' c' : ℤ} {x y z x' y' z' : Float} (p : Triple a b c x y z) (q : Triple a' b' c' x' y' z') where
   two-bound : natAbs (a *ℤ a' +ℤ b *ℤ b') ≤ 130050
-  two-bound = sum-bound (a *ℤ a') (b *ℤ b') 65025 65025 (product-bound a a' 255 255 (p .first-small) (q .first-small)) (product-bound b b' 255 255 (p .second-small) (q .second-small))
+  two-bound =
+      sum-bound (a *ℤ a') (b *ℤ b') 65025 65025 (product-bound a a' 255 255 (p .first-small) (q .first-small))
+      (product-bound b b' 255 255 (p .second-small) (q .second-small))
 
   pub dot-bound : natAbs (dotℤ a b c a' b' c') ≤ 195075
   dot-bound = sum-bound (a *ℤ a' +ℤ b *ℤ b') (c *ℤ c') 130050 65025 two-bound (product-bound c c' 255 255 (p .third-small) (q .third-small))
@@ -41,13 +43,15 @@ module _ {a b c a' b' c' : ℤ} {x y z x' y' z' : Float} (p : Triple a b c x y z
       whole-add (a *ℤ a' +ℤ b *ℤ b') (c *ℤ c') (add binary32 (mul binary32 x x') (mul binary32 y y')) (mul binary32 z z')
       (lt-of-le-of-lt two-bound (lit< tt))
       (one-bound c c' (p .third-small) (q .third-small))
-      (whole-add (a *ℤ a') (b *ℤ b') (mul binary32 x x') (mul binary32 y y') (one-bound a a' (p .first-small) (q .first-small)) (one-bound b b' (p .second-small) (q .second-small))
+      (whole-add (a *ℤ a') (b *ℤ b') (mul binary32 x x') (mul binary32 y y') (one-bound a a' (p .first-small) (q .first-small))
+      (one-bound b b' (p .second-small) (q .second-small))
       (whole-mul a a' x x' (small (natAbs a) (p .first-small)) (small (natAbs a') (q .first-small)) (p .first) (q .first))
       (whole-mul b b' y y' (small (natAbs b) (p .second-small)) (small (natAbs b') (q .second-small)) (p .second) (q .second)))
       (whole-mul c c' z z' (small (natAbs c) (p .third-small)) (small (natAbs c') (q .third-small)) (p .third) (q .third))
 
 -- ---- a sum of squares
-pub square-dot : (A : ℕ) (x y z : Float) → A * A + A * A + A * A ≤ 2 ^ 24 → Within A x → Within A y → Within A z → Upto (A * A + A * A + A * A) (dot x y z x y z)
+pub square-dot : (A : ℕ) (x y z : Float) → A * A + A * A + A * A ≤ 2 ^ 24 → Within A x → Within A y → Within A z
+    → Upto (A * A + A * A + A * A) (dot x y z x y z)
 unfolding dot
 square-dot A x y z h X Y Z =
     add-upto (A * A + A * A) (A * A) (add binary32 (mul binary32 x x) (mul binary32 y y)) (mul binary32 z z) h

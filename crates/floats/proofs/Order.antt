@@ -1,9 +1,10 @@
--- The order of f32 values that are finite and not negative, -0 left out: `lt` is a strict total order on them, and two of which neither is below the other are equal as data.
--- Of any floats, NaN, infinities and -0 among them, `lt` is irreflexive and transitive. Assumes nothing.
+-- The order of f32 values that are finite and not negative, -0 left out: `lt` is a strict total order on them, and two of which neither is below the other
+-- are equal as data. Of any floats, NaN, infinities and -0 among them, `lt` is irreflexive and transitive. Assumes nothing.
 use mathlib.Core.Path.{_≡_, refl, sym, subst}
 use mathlib.Core.Logic.{_⊎_, inl, inr}
 use Prim.Native.Nat.{ℕ, _+_, _*_, _≤_, _<_}
-use native.Mathlib.Nat.{le-antisymm, le-of-lt, le-trans, le-of-eq, lt-irrefl, lt-of-le-of-lt, lt-of-lt-of-le, lt-of-mul-lt-mul-right, mul-lt-mul-of-pos-right, mul-le-mul-right, mul-right-comm, mul-pos}
+use native.Mathlib.Nat.{le-antisymm, le-of-lt, le-trans, le-of-eq, lt-irrefl, lt-of-le-of-lt}
+use native.Mathlib.Nat.{lt-of-lt-of-le, lt-of-mul-lt-mul-right, mul-lt-mul-of-pos-right, mul-le-mul-right, mul-right-comm, mul-pos}
 use native.Mathlib.Omega.{arith}
 use mathlib.Core.Bool.{Bool, true, false, not}
 use lib.Dec.{T, ltb, ltb→lt, lt→ltb, nltb→le}
@@ -114,10 +115,12 @@ lt-transitive (fin false m e) (fin false n d) (fin false o g) h k =
 lt-transitive (fin true m e) (fin false n d) (fin true o g) h k = absurd k
 lt-transitive (fin true m e) (fin false n d) (fin false o g) h k =
     lt→ltb 0 (m * up e * down g + o * up g * down e)
-    (right-pos (m * up e * down g) (o * up g * down e) (grows (n * up d) (o * up g) (down d) (down g) (down e) (down-pos e) (ltb→lt (n * up d * down g) (o * up g * down d) k)))
+    (right-pos (m * up e * down g) (o * up g * down e)
+    (grows (n * up d) (o * up g) (down d) (down g) (down e) (down-pos e) (ltb→lt (n * up d * down g) (o * up g * down d) k)))
 lt-transitive (fin true m e) (fin true n d) (fin false o g) h k =
     lt→ltb 0 (m * up e * down g + o * up g * down e)
-    (left-pos (m * up e * down g) (o * up g * down e) (grows (n * up d) (m * up e) (down d) (down e) (down g) (down-pos g) (ltb→lt (n * up d * down e) (m * up e * down d) h)))
+    (left-pos (m * up e * down g) (o * up g * down e)
+    (grows (n * up d) (m * up e) (down d) (down e) (down g) (down-pos g) (ltb→lt (n * up d * down e) (m * up e * down d) h)))
 lt-transitive (fin true m e) (fin true n d) (fin true o g) h k =
     lt→ltb (o * up g * down e) (m * up e * down g)
     (strict (o * up g) (n * up d) (m * up e) (down g) (down d) (down e) (down-pos e) (down-pos g)

@@ -1,5 +1,5 @@
--- `over c z`, the f32 nearest to z / c. Where c is a power of two and z has at most 24 digits it is z / c exactly; sums, differences and products of such are those of the whole numbers.
--- None of them is -0. Assumes nothing.
+-- `over c z`, the f32 nearest to z / c. Where c is a power of two and z has at most 24 digits it is z / c exactly; sums, differences and products of such
+-- are those of the whole numbers. None of them is -0. Assumes nothing.
 use mathlib.Core.Path.{_≡_, refl, sym, ap, _∙_, subst}
 use Prim.Native.Nat.{ℕ, zero, suc, _+_, _-_, _*_, _^_, _≤_, _<_}
 use native.Mathlib.Nat.{mul-assoc, mul-pos, lt-of-lt-of-le, add-zero, lt-irrefl}
@@ -54,7 +54,9 @@ sum-minus c x y = sym (push c (ltb x y) (negsuc (y - suc x)) (pos (x - y)) ∙ g
     one : (x y : ℕ) → x < y → suc (y - suc x) ≡ y - x
     one x y h = omega arith
 
-    go : (b : Bool) → (T b → x < y) → cond b (round binary32 true (suc (y - suc x)) c) (round binary32 false (x - y) c) ≡ cond b (round binary32 true (y - x) c) (round binary32 false (x - y) c)
+    go : (b : Bool) → (T b → x < y)
+        → cond b (round binary32 true (suc (y - suc x)) c) (round binary32 false (x - y) c) ≡ cond b (round binary32 true (y - x) c)
+        (round binary32 false (x - y) c)
     go true h = ap (λ (z : ℕ). round binary32 true z c) (one x y (h tt))
     go false h = refl
 
@@ -73,7 +75,8 @@ minus-sum c x y = go (ltb x y) (ltb y x) (ltb→lt x y) (ltb→lt y x) (nltb→l
     level h k = omega arith
 
     go : (b d : Bool) → (T b → x < y) → (T d → y < x) → (T (not b) → y ≤ x) → (T (not d) → x ≤ y)
-        → cond b (round binary32 false (y - x) c) (round binary32 (true && d) (x - y) c) ≡ cond d (round binary32 true (suc (x - suc y)) c) (round binary32 false (y - x) c)
+        → cond b (round binary32 false (y - x) c) (round binary32 (true && d) (x - y) c) ≡ cond d (round binary32 true (suc (x - suc y)) c)
+        (round binary32 false (y - x) c)
     go true true h k p q = absurd (clash (h tt) (k tt))
     go true false h k p q = refl
     go false true h k p q = ap (λ (z : ℕ). round binary32 true z c) (sym (one y x (k tt)))
@@ -114,7 +117,8 @@ difference-over c (pos x) (pos zero) = sum-minus c x 0 ∙ ap (λ (z : ℤ). ove
     flat x = pick (ltb x 0) (negsuc (0 - suc x)) (pos (x - 0)) (λ t. none x (ltb→lt x 0 t)) ∙ ap pos (same x)
 difference-over c (pos x) (pos (suc y)) = sum-over c (pos x) (negsuc y)
 difference-over c (pos x) (negsuc y) = sum-over c (pos x) (pos (suc y))
-difference-over c (negsuc x) (pos zero) = unfold sum over in ap (λ (z : ℕ). round binary32 true z c) (add-zero (suc x)) ∙ ap (λ (z : ℤ). over c z) (sym (whole x))
+difference-over c (negsuc x) (pos zero) =
+    unfold sum over in ap (λ (z : ℕ). round binary32 true z c) (add-zero (suc x)) ∙ ap (λ (z : ℤ). over c z) (sym (whole x))
   where
     pick : (b : Bool) (x y : ℤ) → T b → cond b x y ≡ x
     pick true x y h = refl
@@ -146,7 +150,9 @@ scale-over c (negsuc x) w W = go (suc x * w) (mul-pos (suc-pos x) W)
     go zero h = absurd (lt-irrefl 0 h)
     go (suc n) h = refl
 
-pub mul-over : (j k : ℕ) (a : ℤ) (w : ℕ) → j ≤ 149 → k ≤ 149 → natAbs a < 2 ^ 24 → w < 2 ^ 24 → 0 < w → mul binary32 (over (2 ^ j) a) (over (2 ^ k) (pos w)) ≡ over (2 ^ j * 2 ^ k) (a *ℤ pos w)
+pub mul-over : (j k : ℕ) (a : ℤ) (w : ℕ) → j ≤ 149 → k ≤ 149 → natAbs a < 2 ^ 24 → w < 2 ^ 24 → 0 < w
+    → mul binary32 (over (2 ^ j) a) (over (2 ^ k) (pos w)) ≡ over (2 ^ j * 2 ^ k) (a *ℤ pos w)
 mul-over j k a w J K A W P =
-    mul-at binary32 (over (2 ^ j) a) (over (2 ^ k) (pos w)) (isNeg a) false (natAbs a) (2 ^ j) w (2 ^ k) (pow-pos j) (pow-pos k) (over-value j a J A) (over-value k (pos w) K W)
+    mul-at binary32 (over (2 ^ j) a) (over (2 ^ k) (pos w)) (isNeg a) false (natAbs a) (2 ^ j) w (2 ^ k) (pow-pos j) (pow-pos k) (over-value j a J A)
+    (over-value k (pos w) K W)
     ∙ scale-over (2 ^ j * 2 ^ k) a w P

@@ -34,8 +34,10 @@ within-of-le A x (fin true n d) v a b = absurd (true≢false (v .0))
 within-of-le A nan (fin false n d) v a b = absurd b
 within-of-le A (inf true) (fin false n d) v a b = absurd a
 within-of-le A (inf false) (fin false n d) v a b = absurd b
-within-of-le A (fin true m e) (fin false n d) v a b = cut (m * up e) (down e) (n * up d) (down d) A (down-pos d) (v .1) (flip (n * up d * down e) (m * up e * down d) true a)
-within-of-le A (fin false m e) (fin false n d) v a b = cut (m * up e) (down e) (n * up d) (down d) A (down-pos d) (v .1) (le-of-test (m * up e * down d) (n * up d * down e) true b)
+within-of-le A (fin true m e) (fin false n d) v a b =
+    cut (m * up e) (down e) (n * up d) (down d) A (down-pos d) (v .1) (flip (n * up d * down e) (m * up e * down d) true a)
+within-of-le A (fin false m e) (fin false n d) v a b =
+    cut (m * up e) (down e) (n * up d) (down d) A (down-pos d) (v .1) (le-of-test (m * up e * down d) (n * up d * down e) true b)
 
 -- ---- and back
 pub or-l : (a b : Bool) → T a → T (a || b)
@@ -47,10 +49,20 @@ or-r true b t = tt
 or-r false b t = t
 
 test-of-le : (a b : ℕ) → a ≤ b → T (ltb a b || (eqb a b && true))
-test-of-le a b h = elim (eq-or-lt-of-le h) [ inl p ↦ or-r (ltb a b) (eqb a b && true) (and-i (eqb a b) true (eq→eqb p) tt) | inr q ↦ or-l (ltb a b) (eqb a b && true) (lt→ltb a b q) ]
+test-of-le a b h =
+    elim (eq-or-lt-of-le h) [
+      | inl p ↦ or-r (ltb a b) (eqb a b && true) (and-i (eqb a b) true (eq→eqb p) tt)
+      | inr q ↦ or-l (ltb a b) (eqb a b && true)
+          (lt→ltb a b q)
+    ]
 
 test-flip : (a b : ℕ) → b ≤ a → T (ltb b a || (eqb a b && true))
-test-flip a b h = elim (eq-or-lt-of-le h) [ inl p ↦ or-r (ltb b a) (eqb a b && true) (and-i (eqb a b) true (eq→eqb (sym p)) tt) | inr q ↦ or-l (ltb b a) (eqb a b && true) (lt→ltb b a q) ]
+test-flip a b h =
+    elim (eq-or-lt-of-le h) [
+      | inl p ↦ or-r (ltb b a) (eqb a b && true) (and-i (eqb a b) true (eq→eqb (sym p)) tt)
+      | inr q ↦ or-l (ltb b a) (eqb a b && true)
+          (lt→ltb b a q)
+    ]
 
 -- a negative number is at most one that is not
 test-across : (a b : ℕ) → T (ltb 0 (a + b) || (eqb a b && (false || eqb a 0)))
@@ -73,5 +85,13 @@ le-of-within A x (inf u) v h = absurd v
 le-of-within A x (fin true n d) v h = absurd (true≢false (v .0))
 le-of-within A nan (fin false n d) v h = absurd h
 le-of-within A (inf s) (fin false n d) v h = absurd h
-le-of-within A (fin true m e) (fin false n d) v h = (test-flip (n * up d * down e) (m * up e * down d) (paste (m * up e) (down e) (n * up d) (down d) A (v .1) h), test-across (m * up e * down d) (n * up d * down e))
-le-of-within A (fin false m e) (fin false n d) v h = (test-across (n * up d * down e) (m * up e * down d), test-of-le (m * up e * down d) (n * up d * down e) (paste (m * up e) (down e) (n * up d) (down d) A (v .1) h))
+le-of-within A (fin true m e) (fin false n d) v h = (
+  test-flip (n * up d * down e) (m * up e * down d) (paste (m * up e) (down e) (n * up d) (down d) A (v .1) h),
+  test-across (m * up e * down d)
+      (n * up d * down e),
+)
+le-of-within A (fin false m e) (fin false n d) v h = (
+  test-across (n * up d * down e) (m * up e * down d),
+  test-of-le (m * up e * down d) (n * up d * down e)
+      (paste (m * up e) (down e) (n * up d) (down d) A (v .1) h),
+)

@@ -1,5 +1,5 @@
--- The cells of error diffusion: sixteenths. Each is `sixteenths n`, never -0; a send adds weight times residual; source + cell, times 16, is a whole number that casts to an i32.
--- Assumes nothing.
+-- The cells of error diffusion: sixteenths. Each is `sixteenths n`, never -0; a send adds weight times residual; source + cell, times 16, is a whole number
+-- that casts to an i32. Assumes nothing.
 use mathlib.Core.Path.{_≡_, refl, sym, ap, _∙_, subst}
 use Prim.Native.Nat.{ℕ, zero, suc, _-_, _*_, _^_, _≤_, _<_}
 use native.Mathlib.Nat.{mul-assoc, mul-comm, mul-pos, lt-of-lt-of-le, lt-of-le-of-lt, mul-le-mul, le-of-lt, lt-irrefl}
@@ -97,7 +97,8 @@ sum-small b (negsuc n) B N = go (ltb (b * 16) (suc n))
 byte-small : (b : ℕ) → b < 256 → b * 16 < 2 ^ 24
 byte-small b B = omega arith
 
-pub byte-plus-cell : (b : ℕ) (n : ℤ) → b < 256 → natAbs n < 2 ^ 20 → mul binary32 (add binary32 (ofInt binary32 (pos b)) (sixteenths n)) (wholef (pos 16)) ≡ wholef (pos (b * 16) +ℤ n)
+pub byte-plus-cell : (b : ℕ) (n : ℤ) → b < 256 → natAbs n < 2 ^ 20
+    → mul binary32 (add binary32 (ofInt binary32 (pos b)) (sixteenths n)) (wholef (pos 16)) ≡ wholef (pos (b * 16) +ℤ n)
 byte-plus-cell b n B N =
     ap (λ (x : Float). mul binary32 (add binary32 x (sixteenths n)) (wholef (pos 16))) (ofInt-over (pos b) ∙ whole-sixteenths (pos b))
     ∙ ap (λ (x : Float). mul binary32 x (wholef (pos 16))) (sixteenths-add (pos (b * 16)) n (byte-small b B) (lt-of-lt-of-le N (lit≤ tt)))
@@ -128,7 +129,8 @@ pub send : (x y v : Float) (n r : ℤ) (w : ℕ) → Cell 65536 x n → y ≡ wh
 send x y v n r w h p R q W L =
     (λ i. add binary32 (h .is i) (mul binary32 (p i) (q i)))
     ∙ ap (λ (z : Float). add binary32 (sixteenths n) z) (sixteenths-weight r w (residual-small r R) (weight-small w L) W)
-    ∙ sixteenths-add n (r *ℤ pos w) (cell-small n (h .small)) (lt-of-le-of-lt (subst (λ (k : ℕ). k ≤ 255 * 16) (sym (scaled r w W .1)) (mul-le-mul R L)) (lit< tt))
+    ∙ sixteenths-add n (r *ℤ pos w) (cell-small n (h .small))
+    (lt-of-le-of-lt (subst (λ (k : ℕ). k ≤ 255 * 16) (sym (scaled r w W .1)) (mul-le-mul R L)) (lit< tt))
 
 pub cell-range : (b : ℕ) (n : ℤ) → b < 256 → natAbs n ≤ 4080 → natAbs (pos (b * 16) +ℤ n) < 1000000
 cell-range b (pos n) B N = omega arith

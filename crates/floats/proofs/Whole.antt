@@ -75,7 +75,9 @@ pub whole-size : (z : ℤ) (x : Float) (w : Whole z x) → w .size ≡ natAbs z
 whole-size z x w = sym (val-size (w .sign) (w .size)) ∙ ap natAbs (w .value)
 
 pub whole-value : (z : ℤ) (x : Float) (w : Whole z x) → natAbs z < 2 ^ 24 → HasValue x (w .sign) (w .size) 1
-whole-value z x w h = subst (λ (v : Float). HasValue v (w .sign) (w .size) 1) (sym (w .is)) (round-value (w .sign) 0 (w .size) (lit≤ tt) (subst (λ (k : ℕ). k < 2 ^ 24) (sym (whole-size z x w)) h))
+whole-value z x w h =
+    subst (λ (v : Float). HasValue v (w .sign) (w .size) 1) (sym (w .is))
+    (round-value (w .sign) 0 (w .size) (lit≤ tt) (subst (λ (k : ℕ). k < 2 ^ 24) (sym (whole-size z x w)) h))
 
 -- ---- products
 pub whole-mul : (a b : ℤ) (x y : Float) → natAbs a < 2 ^ 24 → natAbs b < 2 ^ 24 → Whole a x → Whole b y → Whole (a *ℤ b) (mul binary32 x y)
@@ -99,8 +101,10 @@ sum-whole true false a b = whole-over (negℤ (pos a) +ℤ pos b) (sum binary32 
 
 pub whole-add : (a b : ℤ) (x y : Float) → natAbs a < 2 ^ 24 → natAbs b < 2 ^ 24 → Whole a x → Whole b y → Whole (a +ℤ b) (add binary32 x y)
 whole-add a b x y A B h k =
-    subst (λ (v : Float). Whole (a +ℤ b) v) (sym (add-at binary32 x y (h .sign) (k .sign) (h .size) (k .size) 1 (lit< tt) (whole-value a x h A) (whole-value b y k B)))
-    (subst (λ (z : ℤ). Whole z (sum binary32 (h .sign) (h .size) (k .sign) (k .size) 1)) (λ i. h .value i +ℤ k .value i) (sum-whole (h .sign) (k .sign) (h .size) (k .size)))
+    subst (λ (v : Float). Whole (a +ℤ b) v) (sym
+    (add-at binary32 x y (h .sign) (k .sign) (h .size) (k .size) 1 (lit< tt) (whole-value a x h A) (whole-value b y k B)))
+    (subst (λ (z : ℤ). Whole z (sum binary32 (h .sign) (h .size) (k .sign) (k .size) 1)) (λ i. h .value i +ℤ k .value i)
+    (sum-whole (h .sign) (k .sign) (h .size) (k .size)))
 
 minus-zero : round binary32 true 0 1 ≡ fin true 0 (pos 0)
 unfolding round
@@ -125,7 +129,8 @@ same-sign : (s : Bool) → unlike s false ≡ s
 same-sign true = refl
 same-sign false = refl
 
-pub whole-div : (a : ℤ) (L : ℕ) (x : Float) (w : Whole a x) → natAbs a < 2 ^ 24 → 0 < L → L < 2 ^ 24 → div binary32 x (wholef (pos L)) ≡ round binary32 (w .sign) (w .size) L
+pub whole-div : (a : ℤ) (L : ℕ) (x : Float) (w : Whole a x) → natAbs a < 2 ^ 24 → 0 < L → L < 2 ^ 24
+    → div binary32 x (wholef (pos L)) ≡ round binary32 (w .sign) (w .size) L
 whole-div a L x w A P Q =
     div-at binary32 x (wholef (pos L)) (w .sign) false (w .size) 1 L 1 (lit< tt) (lit< tt) P (whole-value a x w A) (over-value 0 (pos L) (lit≤ tt) Q)
     ∙ (λ i. round binary32 (same-sign (w .sign) i) (mul-one (w .size) i) (mul-one L i))
@@ -144,10 +149,12 @@ quotient a L x w A P Q = go (w .sign) (w .size) (w .value) (whole-div a L x w A 
     go true zero v e = inr (sym v, e ∙ zero-of)
     go true (suc n) v e = inl (e ∙ sym (over-is L (negsuc n)) ∙ ap (λ (y : ℤ). over L y) v)
 
-pub quotient-within : (A : ℕ) (a : ℤ) (L : ℕ) (x : Float) → Whole a x → natAbs a ≤ A → A < 2 ^ 24 → 0 < L → L < 2 ^ 24 → Within A (div binary32 x (wholef (pos L)))
+pub quotient-within : (A : ℕ) (a : ℤ) (L : ℕ) (x : Float) → Whole a x → natAbs a ≤ A → A < 2 ^ 24 → 0 < L → L < 2 ^ 24
+    → Within A (div binary32 x (wholef (pos L)))
 quotient-within A a L x w h H P Q =
     subst (λ (v : Float). Within A v) (sym (whole-div a L x w (lt-of-le-of-lt h H) P Q))
-    (round-within (w .sign) A (w .size) L P (le-of-lt H) (le-trans (le-of-eq (whole-size a x w)) (le-trans h (le-trans (le-of-eq (sym (mul-one A))) (mul-le-mul-left A P)))))
+    (round-within (w .sign) A (w .size) L P (le-of-lt H)
+    (le-trans (le-of-eq (whole-size a x w)) (le-trans h (le-trans (le-of-eq (sym (mul-one A))) (mul-le-mul-left A P)))))
 
 -- ---- millionths: a whole number over a million, rounded once, is from -2 to 2
 million : ofBits binary32 0x4974_2400 ≡ wholef (pos 1000000)

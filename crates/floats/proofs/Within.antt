@@ -1,9 +1,10 @@
--- Bounded operands give a bounded result, so no sum, difference or product of them is an infinity or a NaN. Bounds are whole numbers up to 2 ^ 24, which f32 holds.
--- Assumes nothing.
+-- Bounded operands give a bounded result, so no sum, difference or product of them is an infinity or a NaN. Bounds are whole numbers up to 2 ^ 24, which
+-- f32 holds. Assumes nothing.
 use mathlib.Core.Path.{_≡_, refl, sym, ap, _∙_, subst}
 use mathlib.Core.Logic.{inl, inr}
 use Prim.Native.Nat.{ℕ, zero, suc, _+_, _-_, _*_, _/_, _%_, _^_, _≤_, _<_, compare}
-use native.Mathlib.Nat.{le-trans, le-of-eq, le-of-lt, mul-assoc, mul-comm, mul-one, mul-right-comm, mul-mul-mul-comm, mul-le-mul, mul-le-mul-right, le-of-mul-le-mul-right, add-mul, mul-pos}
+use native.Mathlib.Nat.{le-trans, le-of-eq, le-of-lt, mul-assoc, mul-comm, mul-one}
+use native.Mathlib.Nat.{mul-right-comm, mul-mul-mul-comm, mul-le-mul, mul-le-mul-right, le-of-mul-le-mul-right, add-mul, mul-pos}
 use native.Mathlib.Omega.{arith}
 use mathlib.Core.Bool.{Bool, true, false, _&&_, _||_, Bool·beq, cond, true≢false}
 use lib.Dec.{T, ltb, eqb, ltb→lt, eqb→eq, lit<}
@@ -35,7 +36,9 @@ units-signed f s q k = go (ltb (q * 2 ^ k) (2 ^ (low f + suc (lib.Ieee.emax f)))
     go false = refl
 
 pub round-signed : (f : Format) (s : Bool) (a c : ℕ) → Signed s (round f s a c)
-round-signed f s a c = subst (λ (x : Float). Signed s x) (sym (round-is f s a c)) (units-signed f s (nearest (a * 2 ^ low f / (c * 2 ^ k)) (compare (a * 2 ^ low f % (c * 2 ^ k) * 2) (c * 2 ^ k))) k)
+round-signed f s a c =
+    subst (λ (x : Float). Signed s x) (sym (round-is f s a c))
+    (units-signed f s (nearest (a * 2 ^ low f / (c * 2 ^ k)) (compare (a * 2 ^ low f % (c * 2 ^ k) * 2) (c * 2 ^ k))) k)
   where
     k : ℕ
     k = size (a * 2 ^ low f / c) - prec f
@@ -57,7 +60,8 @@ units-neg f q k = go (ltb (q * 2 ^ k) (2 ^ (low f + suc (lib.Ieee.emax f))))
 pub round-neg : (f : Format) (a c : ℕ) → round f true a c ≡ neg (round f false a c)
 round-neg f a c =
     let k = size (a * 2 ^ low f / c) - prec f in
-    round-is f true a c ∙ units-neg f (nearest (a * 2 ^ low f / (c * 2 ^ k)) (compare (a * 2 ^ low f % (c * 2 ^ k) * 2) (c * 2 ^ k))) k ∙ ap neg (sym (round-is f false a c))
+    round-is f true a c ∙ units-neg f (nearest (a * 2 ^ low f / (c * 2 ^ k)) (compare (a * 2 ^ low f % (c * 2 ^ k) * 2) (c * 2 ^ k))) k ∙ ap neg
+    (sym (round-is f false a c))
 
 -- ---- `Within` and `Upto`
 pub upto-within : (A : ℕ) (x : Float) → Upto A x → Within A x
@@ -90,7 +94,8 @@ upto-of-le A (fin true m e) y s v t = absurd (true≢false s)
 upto-of-le A (fin false m e) nan s v t = absurd t
 upto-of-le A (fin false m e) (inf u) s v t = absurd v
 upto-of-le A (fin false m e) (fin true n d) s v t = absurd (true≢false (v .0))
-upto-of-le A (fin false m e) (fin false n d) s v t = cut (m * up e) (down e) (n * up d) (down d) A (down-pos d) (v .1) (le-of-test (m * up e * down d) (n * up d * down e) true t)
+upto-of-le A (fin false m e) (fin false n d) s v t =
+    cut (m * up e) (down e) (n * up d) (down d) A (down-pos d) (v .1) (le-of-test (m * up e * down d) (n * up d * down e) true t)
 
 -- ---- a fraction that is at most A rounds to a value that is at most A
 pub round-upto : (A a c : ℕ) → 0 < c → A ≤ 2 ^ 24 → a ≤ A * c → Upto A (round binary32 false a c)
@@ -101,7 +106,8 @@ round-upto A a c C L h =
 pub round-within : (s : Bool) (A a c : ℕ) → 0 < c → A ≤ 2 ^ 24 → a ≤ A * c → Within A (round binary32 s a c)
 round-within false A a c C L h = upto-within A (round binary32 false a c) (round-upto A a c C L h)
 round-within true A a c C L h =
-    subst (λ (x : Float). Within A x) (sym (round-neg binary32 a c)) (within-neg A (round binary32 false a c) (upto-within A (round binary32 false a c) (round-upto A a c C L h)))
+    subst (λ (x : Float). Within A x) (sym (round-neg binary32 a c))
+    (within-neg A (round binary32 false a c) (upto-within A (round binary32 false a c) (round-upto A a c C L h)))
 
 -- ---- products
 pub mul-within : (A B : ℕ) (x y : Float) → A * B ≤ 2 ^ 24 → Within A x → Within B y → Within (A * B) (mul binary32 x y)
@@ -111,7 +117,8 @@ mul-within A B (inf s) y L h k = absurd h
 mul-within A B (fin s m e) nan L h k = absurd k
 mul-within A B (fin s m e) (inf t) L h k = absurd k
 mul-within A B (fin s m e) (fin t n d) L h k =
-    round-within (unlike s t) (A * B) (m * up e * (n * up d)) (down e * down d) (mul-pos (down-pos e) (down-pos d)) L (le-trans (mul-le-mul h k) (le-of-eq (mul-mul-mul-comm A (down e) B (down d))))
+    round-within (unlike s t) (A * B) (m * up e * (n * up d)) (down e * down d) (mul-pos (down-pos e) (down-pos d)) L
+    (le-trans (mul-le-mul h k) (le-of-eq (mul-mul-mul-comm A (down e) B (down d))))
 
 pub mul-upto : (A B : ℕ) (x y : Float) → A * B ≤ 2 ^ 24 → Upto A x → Upto B y → Upto (A * B) (mul binary32 x y)
 unfolding mul
@@ -122,15 +129,20 @@ mul-upto A B (fin false m e) nan L h k = absurd k
 mul-upto A B (fin false m e) (inf t) L h k = absurd k
 mul-upto A B (fin false m e) (fin true n d) L h k = absurd k
 mul-upto A B (fin false m e) (fin false n d) L h k =
-    round-upto (A * B) (m * up e * (n * up d)) (down e * down d) (mul-pos (down-pos e) (down-pos d)) L (le-trans (mul-le-mul h k) (le-of-eq (mul-mul-mul-comm A (down e) B (down d))))
+    round-upto (A * B) (m * up e * (n * up d)) (down e * down d) (mul-pos (down-pos e) (down-pos d)) L
+    (le-trans (mul-le-mul h k) (le-of-eq (mul-mul-mul-comm A (down e) B (down d))))
 
 -- a square is not negative, and not -0
 pub square-upto : (A : ℕ) (x : Float) → A * A ≤ 2 ^ 24 → Within A x → Upto (A * A) (mul binary32 x x)
 unfolding mul
 square-upto A nan L h = absurd h
 square-upto A (inf s) L h = absurd h
-square-upto A (fin true m e) L h = round-upto (A * A) (m * up e * (m * up e)) (down e * down e) (mul-pos (down-pos e) (down-pos e)) L (le-trans (mul-le-mul h h) (le-of-eq (mul-mul-mul-comm A (down e) A (down e))))
-square-upto A (fin false m e) L h = round-upto (A * A) (m * up e * (m * up e)) (down e * down e) (mul-pos (down-pos e) (down-pos e)) L (le-trans (mul-le-mul h h) (le-of-eq (mul-mul-mul-comm A (down e) A (down e))))
+square-upto A (fin true m e) L h =
+    round-upto (A * A) (m * up e * (m * up e)) (down e * down e) (mul-pos (down-pos e) (down-pos e)) L
+    (le-trans (mul-le-mul h h) (le-of-eq (mul-mul-mul-comm A (down e) A (down e))))
+square-upto A (fin false m e) L h =
+    round-upto (A * A) (m * up e * (m * up e)) (down e * down e) (mul-pos (down-pos e) (down-pos e)) L
+    (le-trans (mul-le-mul h h) (le-of-eq (mul-mul-mul-comm A (down e) A (down e))))
 
 -- ---- sums
 first : (a b X Y : ℕ) → a ≤ X → b ≤ Y → a + b ≤ X + Y
@@ -167,7 +179,8 @@ add-within A B (inf s) y L h k = absurd h
 add-within A B (fin s m e) nan L h k = absurd k
 add-within A B (fin s m e) (inf t) L h k = absurd k
 add-within A B (fin s m e) (fin t n d) L h k =
-    sum-within s (m * up e * down d) t (n * up d * down e) (down e * down d) A B (mul-pos (down-pos e) (down-pos d)) L (onto (m * up e) (down e) A (down d) h) (onto' (n * up d) (down d) B (down e) k)
+    sum-within s (m * up e * down d) t (n * up d * down e) (down e * down d) A B (mul-pos (down-pos e) (down-pos d)) L (onto (m * up e) (down e) A (down d) h)
+    (onto' (n * up d) (down d) B (down e) k)
 
 pub sub-within : (A B : ℕ) (x y : Float) → A + B ≤ 2 ^ 24 → Within A x → Within B y → Within (A + B) (sub binary32 x y)
 unfolding sub
@@ -183,5 +196,6 @@ add-upto A B (fin false m e) (inf t) L h k = absurd k
 add-upto A B (fin false m e) (fin true n d) L h k = absurd k
 add-upto A B (fin false m e) (fin false n d) L h k = unfold sum in
     round-upto (A + B) (m * up e * down d + n * up d * down e) (down e * down d) (mul-pos (down-pos e) (down-pos d)) L
-    (le-trans (first (m * up e * down d) (n * up d * down e) (A * (down e * down d)) (B * (down e * down d)) (onto (m * up e) (down e) A (down d) h) (onto' (n * up d) (down d) B (down e) k))
+    (le-trans (first (m * up e * down d) (n * up d * down e) (A * (down e * down d)) (B * (down e * down d)) (onto (m * up e) (down e) A (down d) h)
+    (onto' (n * up d) (down d) B (down e) k))
     (le-of-eq (sym (add-mul A B (down e * down d)))))

@@ -51,7 +51,8 @@ of-bytes r g b a hr hg hb =
       lowest b a hb,
     )
 
-pub color-of : (c d : Rgba8888) → c .r < 256 → c .g < 256 → c .b < 256 → c ≡ d → colorWithKey (c .r + 256 * (c .g + 256 * (c .b + 256 * c .a))) ≡ record { 0 = d }
+pub color-of : (c d : Rgba8888) → c .r < 256 → c .g < 256 → c .b < 256 → c ≡ d
+    → colorWithKey (c .r + 256 * (c .g + 256 * (c .b + 256 * c .a))) ≡ record { 0 = d }
 color-of c d hr hg hb e = of-bytes (c .r) (c .g) (c .b) (c .a) hr hg hb ∙ (λ i. record { 0 = e i })
 
 same-key : (k l : ℕ) → sameReduced (colorWithKey k) (colorWithKey l) ≡ eqb k l

@@ -62,13 +62,16 @@ module _ {A : Type 0} where
 
     module _ (passes : ℕ → Bool) (value : ℕ → A) where
       -- it depends on nothing but the first n positions
-      pub differing-same : (passes′ : ℕ → Bool) (value′ : ℕ → A) (n : ℕ) → ((i : ℕ) → i < n → passes i ≡ passes′ i) → ((i : ℕ) → i < n → value i ≡ value′ i) → differing same passes value n ≡ differing same passes′ value′ n
+      pub differing-same : (passes′ : ℕ → Bool) (value′ : ℕ → A) (n : ℕ) → ((i : ℕ) → i < n → passes i ≡ passes′ i) → ((i : ℕ) → i < n → value i ≡ value′ i)
+          → differing same passes value n ≡ differing same passes′ value′ n
       unfolding differing
       differing-same passes′ value′ zero p v = refl
-      differing-same passes′ value′ (suc n) p v = rw (p n (omega arith), v n (omega arith), differing-same passes′ value′ n (λ i h. p i (omega arith)) (λ i h. v i (omega arith)))
+      differing-same passes′ value′ (suc n) p v =
+          rw (p n (omega arith), v n (omega arith), differing-same passes′ value′ n (λ i h. p i (omega arith)) (λ i h. v i (omega arith)))
 
       -- one position more
-      pub differing-more : (n : ℕ) → differing same passes value (n + 1) ≡ cond (passes n) (addNew same (value n) (differing same passes value n)) (differing same passes value n)
+      pub differing-more : (n : ℕ)
+          → differing same passes value (n + 1) ≡ cond (passes n) (addNew same (value n) (differing same passes value n)) (differing same passes value n)
       unfolding differing
       differing-more n = ap (differing same passes value) (add-one n)
 
@@ -78,7 +81,8 @@ module _ {A : Type 0} where
       skip m zero h = ap (differing same passes value) (add-zero m)
       skip m (suc d) h =
           ap (differing same passes value) (add-suc m d)
-          ∙ ap (λ (t : Bool). cond t (addNew same (value (m + d)) (differing same passes value (m + d))) (differing same passes value (m + d))) (h (m + d) (omega arith) (omega arith))
+          ∙ ap (λ (t : Bool). cond t (addNew same (value (m + d)) (differing same passes value (m + d))) (differing same passes value (m + d)))
+          (h (m + d) (omega arith) (omega arith))
           ∙ skip m d (λ i l g. h i l (omega arith))
 
       grows : (m d : ℕ) → length (differing same passes value m) ≤ length (differing same passes value (m + d))
@@ -88,7 +92,9 @@ module _ {A : Type 0} where
           le-trans (grows m d)
           (subst (λ (n : ℕ). length (differing same passes value (m + d)) ≤ length (differing same passes value n)) (sym (add-suc m d)) (go (passes (m + d))))
         where
-          go : (t : Bool) → length (differing same passes value (m + d)) ≤ length (cond t (addNew same (value (m + d)) (differing same passes value (m + d))) (differing same passes value (m + d)))
+          go : (t : Bool)
+              → length (differing same passes value (m + d))
+              ≤ length (cond t (addNew same (value (m + d)) (differing same passes value (m + d))) (differing same passes value (m + d)))
           go true = add-longer (value (m + d)) (differing same passes value (m + d))
           go false = omega arith
 
@@ -118,7 +124,8 @@ module _ {A : Type 0} where
     has-not v [] e x i = absurd i
     has-not v (y ∷ xs) e x i = go (same y v) refl e i (λ f. has-not v xs f x)
       where
-        go : (t : Bool) → same y v ≡ t → cond t true (has same v xs) ≡ false → (x ≡ y) ⊎ In x xs → (has same v xs ≡ false → In x xs → T (not (same x v))) → T (not (same x v))
+        go : (t : Bool) → same y v ≡ t → cond t true (has same v xs) ≡ false → (x ≡ y) ⊎ In x xs → (has same v xs ≡ false → In x xs → T (not (same x v)))
+            → T (not (same x v))
         go true s e i r = absurd (clash refl e)
         go false s e (inl p) r = subst (λ (u : A). T (not (same u v))) (sym p) (fails s)
         go false s e (inr i) r = r e i
@@ -192,7 +199,8 @@ module _ {A : Type 0} where
             | inr l ↦ inl (j, l, p, e)
           ]
 
-          go : (t : Bool) → passes n ≡ t → Different same passes value n (differing same passes value n) → Different same passes value (suc n) (cond t (addNew same (value n) (differing same passes value n)) (differing same passes value n))
+          go : (t : Bool) → passes n ≡ t → Different same passes value n (differing same passes value n)
+              → Different same passes value (suc n) (cond t (addNew same (value n) (differing same passes value n)) (differing same passes value n))
           go true e r = record {
             once = add-once (value n) (differing same passes value n) (r .once);
             sound = λ v i. elim (in-add v (value n) (differing same passes value n) i) [ inl j ↦ later (r .sound v j) | inr q ↦ (n, omega arith, e, sym q) ];
@@ -211,7 +219,8 @@ module _ {A : Type 0} where
       -- there are at least k exactly if k values, no two the same, occur
       pub many-if : (n k : ℕ) → Many same passes value n k → k ≤ length (differing same passes value n)
       many-if n k m =
-          let l : length (m .values) ≤ length (differing same passes value n) = fewer (m .values) (differing same passes value n) (m .once) (λ v i. different-is n .whole v (m .occur v i)) in
+          let l : length (m .values) ≤ length (differing same passes value n) = fewer (m .values) (differing same passes value n) (m .once)
+          (λ v i. different-is n .whole v (m .occur v i)) in
           omega (arith, m .count)
 
       pub many-only : (n k : ℕ) → k ≤ length (differing same passes value n) → Many same passes value n k

@@ -22,7 +22,8 @@ module _ {A : Type 0} where
   fill-begin k piece d = record { long = refl; within = rw mul-zero (omega arith); so-far = filled-none k piece d }
 
   module _ {k : ℕ} {piece : ℕ → List A} {d s : List A} where
-    pub fill-store : {s′ : List A} {i : ℕ} → Filling k piece d s i → ((j : ℕ) → length (piece j) ≡ k) → k * (i + 1) ≤ length d → s′ ≡ sets s (k * i) (piece i) → Filling k piece d s′ (i + 1)
+    pub fill-store : {s′ : List A} {i : ℕ} → Filling k piece d s i → ((j : ℕ) → length (piece j) ≡ k) → k * (i + 1) ≤ length d → s′ ≡ sets s (k * i) (piece i)
+        → Filling k piece d s′ (i + 1)
     fill-store {i = i} f sized h e = record {
       long = ap length e ∙ length-sets s (k * i) (piece i) ∙ f .long;
       within = h;
@@ -33,7 +34,8 @@ module _ {A : Type 0} where
     fill-done {n} f h = f .so-far ∙ filled-all k piece d n h
 
   module _ {d s : List A} where
-    pub fill-set : {f : ℕ → A} {s′ : List A} {i : ℕ} → Filling 1 (λ j. f j ∷ []) d s i → i < length d → s′ ≡ set s i (f i) → Filling 1 (λ j. f j ∷ []) d s′ (i + 1)
+    pub fill-set : {f : ℕ → A} {s′ : List A} {i : ℕ} → Filling 1 (λ j. f j ∷ []) d s i → i < length d → s′ ≡ set s i (f i)
+        → Filling 1 (λ j. f j ∷ []) d s′ (i + 1)
     fill-set {f} {i = i} g h e = record {
       long = ap length e ∙ length-set s i (f i) ∙ g .long;
       within = omega arith;

@@ -4,7 +4,8 @@ use mathlib.Core.Path.{_≡_, refl, sym, _∙_, ap, subst}
 use mathlib.Core.Logic.{⊎-elim}
 use mathlib.Core.List.{List, [], _∷_, _++_, append-nil}
 use Prim.Native.Nat.{ℕ, zero, suc, _+_, _-_, _*_, _/_, _%_, _≤_, _<_}
-use native.Mathlib.Nat.{mul-zero, zero-mul, mul-comm, mul-suc, one-mul, mul-le-mul-left, eq-or-lt-of-le, le-of-suc-le-suc, not-suc-le-zero, div-add-mod, mod-lt, div-lt-iff-lt-mul}
+use native.Mathlib.Nat.{mul-zero, zero-mul, mul-comm, mul-suc, one-mul, mul-le-mul-left}
+use native.Mathlib.Nat.{eq-or-lt-of-le, le-of-suc-le-suc, not-suc-le-zero, div-add-mod, mod-lt, div-lt-iff-lt-mul}
 use native.Mathlib.Numerals.{add-one}
 use native.Mathlib.Omega.{arith}
 use lib.ListN.{length, getD, take, drop, set, replicate, List·getD-append, length-append, length-drop, replicate-append-replicate}
@@ -23,7 +24,8 @@ module _ {A : Type 0} where
   pub gather-replicate : (n : ℕ) (v : A) → gather n (λ _. v ∷ []) ≡ replicate n v
   unfolding gather
   gather-replicate zero v = refl
-  gather-replicate (suc n) v = ap (λ (l : List A). l ++ (v ∷ [])) (gather-replicate n v) ∙ replicate-append-replicate n 1 v ∙ ap (λ (m : ℕ). replicate m v) (add-one n)
+  gather-replicate (suc n) v =
+      ap (λ (l : List A). l ++ (v ∷ [])) (gather-replicate n v) ∙ replicate-append-replicate n 1 v ∙ ap (λ (m : ℕ). replicate m v) (add-one n)
 
   -- no piece in place, and all of them
   pub filled-none : (k : ℕ) (piece : ℕ → List A) (d : List A) → d ≡ filled k 0 piece d
@@ -55,7 +57,8 @@ module _ {A : Type 0} where
         (eq-or-lt-of-le (le-of-suc-le-suc h))
 
     -- a list of that length with those elements is the gathered one
-    pub gather-only : (z : A) (n : ℕ) (l : List A) → length l ≡ k * n → ((i j : ℕ) → i < n → j < k → getD l (k * i + j) z ≡ getD (piece i) j z) → l ≡ gather n piece
+    pub gather-only : (z : A) (n : ℕ) (l : List A) → length l ≡ k * n → ((i j : ℕ) → i < n → j < k → getD l (k * i + j) z ≡ getD (piece i) j z)
+        → l ≡ gather n piece
     gather-only z n l len at = ext-getD z l (gather n piece) (len ∙ sym (gather-length n)) (λ m h. go m (subst (λ (x : ℕ). m < x) len h))
       where
         some : (k′ m : ℕ) → m < k′ * n → 0 < k′
@@ -83,7 +86,8 @@ module _ {A : Type 0} where
         let len : length (gather n piece) ≡ k * n = gather-length n in
         let more : k * (n + 1) ≡ k * n + k = ap (λ (m : ℕ). k * m) (add-one n) ∙ mul-suc k n in
         let rest : drop (k * n + k) (filled k n piece d) ≡ drop (k * (n + 1)) d =
-        ap (λ (m : ℕ). drop (m + k) (filled k n piece d)) (sym len) ∙ drop-append-add (gather n piece) (drop (k * n) d) k ∙ drop-drop k (k * n) d ∙ ap (λ (m : ℕ). drop m d) (sym more) in
+        ap (λ (m : ℕ). drop (m + k) (filled k n piece d)) (sym len) ∙ drop-append-add (gather n piece) (drop (k * n) d) k ∙ drop-drop k (k * n) d ∙ ap
+        (λ (m : ℕ). drop m d) (sym more) in
         sets-eq (piece n) (filled k n piece d) (k * n) (rw (long n, filled-length d n (omega arith)) (omega arith))
         ∙ rw (take-at (gather n piece) (drop (k * n) d) (k * n) len, long n, rest, g)
 

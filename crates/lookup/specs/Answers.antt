@@ -53,7 +53,8 @@ nearestTwoAnswer reduced normalized oklab color width = valueOr (two.At (nearest
 
 -- with 0 the bracket
 abbrev pub bracketAnswer : (reduced normalized : List ℕ) → List Float → NormalizedColor → (width : ℕ) → ℕ → FoundBracket
-bracketAnswer reduced normalized oklab color width = valueOr (bracket.Of (bracketOf (flat reduced normalized oklab) width (toOklab color) color)) bracket.Refused
+bracketAnswer reduced normalized oklab color width =
+    valueOr (bracket.Of (bracketOf (flat reduced normalized oklab) width (toOklab color) color)) bracket.Refused
 
 -- with 0 the colour that the threshold of the place picks
 abbrev pub pickAnswer : Bracket → (kind x y : ℕ) → ℕ → Picked

@@ -35,7 +35,8 @@ module _ (list : List CandidateColor) (color : NormalizedColor) where
 
   module _ (width : ℕ) where
     two-with : (n : ℕ)
-        → foundTwoIn list (nearestTwoAnswer (reducedBytes list) (normalizedBytes list) (oklabFloats list) color width n) ≡ nearestTwoRecordsAnswer list color width n
+        → foundTwoIn list (nearestTwoAnswer (reducedBytes list) (normalizedBytes list)
+        (oklabFloats list) color width n) ≡ nearestTwoRecordsAnswer list color width n
     unfolding nearestTwoOf
     two-with zero = λ i. (let t = nearestTwoOf (flat-is list i) width (toOklab color) color in recordsAt list (t .first) (t .second))
     two-with (suc n) = refl

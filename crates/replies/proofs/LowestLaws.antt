@@ -27,7 +27,8 @@ below-all : (n : ℕ) (xs : List Reply) → T (risingFrom n xs) → (m : ℕ) �
 below-all n [] h m a = absurd a
 below-all n (y ∷ ys) h m a = go (y .applies) refl a (below-all (y .number) ys (rising-tail n y ys h) m)
   where
-    go : (t : Bool) → y .applies ≡ t → ((y .applies ≡ true) × (y .number ≡ m)) ⊎ Applies m ys → (Applies m ys → (y .number < firstReply ys) × (firstReply ys ≤ m))
+    go : (t : Bool) → y .applies ≡ t → ((y .applies ≡ true) × (y .number ≡ m)) ⊎ Applies m ys
+        → (Applies m ys → (y .number < firstReply ys) × (firstReply ys ≤ m))
         → (n < cond t (y .number) (firstReply ys)) × (cond t (y .number) (firstReply ys) ≤ m)
     go true e (inl s) later = (rising-head n y ys h, omega (arith, s .1))
     go true e (inr j) later = (rising-head n y ys h, omega (arith, rising-above (y .number) ys (rising-tail n y ys h) m j))

@@ -32,7 +32,8 @@ pub reply-front : (xs ys : List Reply) → (firstReply xs ≡ 0 → ⊥) → fir
 reply-front [] ys n = absurd (n refl)
 reply-front (x ∷ xs) ys n = go (x .applies) n (reply-front xs ys)
   where
-    go : (t : Bool) → (cond t (x .number) (firstReply xs) ≡ 0 → ⊥) → ((firstReply xs ≡ 0 → ⊥) → firstReply (xs ++ ys) ≡ firstReply xs) → cond t (x .number) (firstReply (xs ++ ys)) ≡ cond t (x .number) (firstReply xs)
+    go : (t : Bool) → (cond t (x .number) (firstReply xs) ≡ 0 → ⊥) → ((firstReply xs ≡ 0 → ⊥) → firstReply (xs ++ ys) ≡ firstReply xs)
+        → cond t (x .number) (firstReply (xs ++ ys)) ≡ cond t (x .number) (firstReply xs)
     go true n later = refl
     go false n later = later n
 
@@ -43,7 +44,8 @@ upto n (x ∷ xs) = leb (x .number) n && upto n xs
 
 pub reply-upto : (n : ℕ) (xs : List Reply) → T (upto n xs) → firstReply xs ≤ n
 reply-upto n [] h = omega arith
-reply-upto n (x ∷ xs) h = go (x .applies) (leb→le (x .number) n (and-l (leb (x .number) n) (upto n xs) h)) (reply-upto n xs (and-r (leb (x .number) n) (upto n xs) h))
+reply-upto n (x ∷ xs) h =
+    go (x .applies) (leb→le (x .number) n (and-l (leb (x .number) n) (upto n xs) h)) (reply-upto n xs (and-r (leb (x .number) n) (upto n xs) h))
   where
     go : (t : Bool) → x .number ≤ n → firstReply xs ≤ n → cond t (x .number) (firstReply xs) ≤ n
     go true a later = a
@@ -51,13 +53,15 @@ reply-upto n (x ∷ xs) h = go (x .applies) (leb→le (x .number) n (and-l (leb 
 
 -- ---- what it is
 first-given : (xs : List Reply) → (firstReply xs ≡ 0 → ⊥)
-    → (before : List Reply) × (x : Reply) × (behind : List Reply) × (xs ≡ before ++ x ∷ behind) × NoneApplies before × (x .applies ≡ true) × (x .number ≡ firstReply xs)
+    → (before : List Reply) × (x : Reply) × (behind : List Reply) × (xs ≡ before ++ x ∷ behind) × NoneApplies before × (x .applies ≡ true) ×
+    (x .number ≡ firstReply xs)
 first-given [] h = absurd (h refl)
 first-given (y ∷ ys) h = go (y .applies) refl h (first-given ys)
   where
     go : (t : Bool) → y .applies ≡ t → (cond t (y .number) (firstReply ys) ≡ 0 → ⊥)
         → ((firstReply ys ≡ 0 → ⊥)
-        → (before : List Reply) × (x : Reply) × (behind : List Reply) × (ys ≡ before ++ x ∷ behind) × NoneApplies before × (x .applies ≡ true) × (x .number ≡ firstReply ys))
+        → (before : List Reply) × (x : Reply) × (behind : List Reply) × (ys ≡ before ++ x ∷ behind) × NoneApplies before × (x .applies ≡ true) ×
+        (x .number ≡ firstReply ys))
         → (before : List Reply) × (x : Reply) × (behind : List Reply) × (y ∷ ys ≡ before ++ x ∷ behind) × NoneApplies before × (x .applies ≡ true)
         × (x .number ≡ cond t (y .number) (firstReply ys))
     go true e h later = ([], y, ys, refl, tt, e, refl)

@@ -17,17 +17,22 @@ module _ (d : tie.After-dither-to-mode) where
   abbrev asked : ColorZero → Commission
   asked zero =
       let a = s .args in
-      commission (settingsOf (a .shift) (a .kind) (a .width) (a .height) (a .origin-x) (a .origin-y) (a .tile-width) (a .tile-height) (a .limit) zero) (a .reduction .now) (a .scale .now) (a .pixels .now)
+      commission (settingsOf (a .shift) (a .kind) (a .width) (a .height) (a .origin-x) (a .origin-y) (a .tile-width) (a .tile-height) (a .limit) zero)
+      (a .reduction .now) (a .scale .now) (a .pixels .now)
 
   abbrev was : Buffers
   was = buffers (s .args .places .now) (s .args .oklab .now) (s .args .out .now) (s .args .cells .now)
 
-  handed : {y : Dithered} {then : Buffers} → DitheredToMode (asked (d .before .before .before .before .before .color-zero .result)) was (d .dither-to-mode .result) then → d .dither-to-mode .result ≡ y
+  handed : {y : Dithered} {then : Buffers}
+      → DitheredToMode (asked (d .before .before .before .before .before .color-zero .result)) was (d .dither-to-mode .result) then
+      → d .dither-to-mode .result ≡ y
       → telling then (s .args .count .now) (s .args .tile .now) y
-      ≡ badgeDitherToMode (asked (zeroOf (s .args .has-zero) (s .args .zero-r) (s .args .zero-g) (s .args .zero-b) (s .args .zero-a))) was (s .args .count .now) (s .args .tile .now)
+      ≡ badgeDitherToMode (asked (zeroOf (s .args .has-zero) (s .args .zero-r) (s .args .zero-g) (s .args .zero-b) (s .args .zero-a))) was (s .args .count .now)
+      (s .args .tile .now)
   handed {then = then} h e =
       mode-by-case _ was (s .args .count .now) (s .args .tile .now)
-      (subst (λ (u : ColorZero). DitheredToMode (asked u) was (d .dither-to-mode .result) then) (d .before .before .before .before .before .color-zero .ensures) h) e
+      (subst (λ (u : ColorZero). DitheredToMode (asked u) was (d .dither-to-mode .result) then)
+      (d .before .before .before .before .before .color-zero .ensures) h) e
 
 color-zero-requires : tie.Need-color-zero-requires
 color-zero-requires c κs = search needs
@@ -60,7 +65,9 @@ same-length-4 : tie.Need-same-length-4
 same-length-4 c = search needs
 
 returns : tie.Need-returns
-returns c = let d = c .before .before .before .before .before .before .before .before .before .before .before in handed d (d .dither-to-mode .ensures) (c .before .k .given .1)
+returns c =
+    let d = c .before .before .before .before .before .before .before .before .before .before .before in handed d (d .dither-to-mode .ensures)
+    (c .before .k .given .1)
 
 same-length-5 : tie.Need-same-length-5
 same-length-5 c = search needs
@@ -75,7 +82,9 @@ same-length-8 : tie.Need-same-length-8
 same-length-8 c = search needs
 
 returns-2 : tie.Need-returns-2
-returns-2 c = let d = c .before .before .before .before .before .before .before .before .before .before .before in handed d (d .dither-to-mode .ensures) (c .before .t .given .1)
+returns-2 c =
+    let d = c .before .before .before .before .before .before .before .before .before .before .before in handed d (d .dither-to-mode .ensures)
+    (c .before .t .given .1)
 
 same-length-9 : tie.Need-same-length-9
 same-length-9 c = search needs
@@ -90,7 +99,9 @@ same-length-12 : tie.Need-same-length-12
 same-length-12 c = search needs
 
 returns-3 : tie.Need-returns-3
-returns-3 c = let d = c .before .before .before .before .before .before .before .before .before .before .before in handed d (d .dither-to-mode .ensures) (c .before .number .given .1)
+returns-3 c =
+    let d = c .before .before .before .before .before .before .before .before .before .before .before in handed d (d .dither-to-mode .ensures)
+    (c .before .number .given .1)
 
 pub badge-dither-to-mode-spec : {M : Type 1} → statement M
 badge-dither-to-mode-spec =

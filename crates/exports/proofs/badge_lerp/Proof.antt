@@ -22,7 +22,8 @@ lerp-requires c κs = search needs
 returns : tie.Need-returns
 returns c =
     c .lerp .ensures
-    ∙ (λ i. lerpOf (record { 0 = c .before .before .before .new .ensures i }) (record { 0 = c .before .before .new2 .ensures i }) (record { 0 = c .before .new3 .ensures i }) (not (eqb (c .before .before .before .before .args .clamp) 0)))
+    ∙ (λ i. lerpOf (record { 0 = c .before .before .before .new .ensures i }) (record { 0 = c .before .before .new2 .ensures i })
+    (record { 0 = c .before .new3 .ensures i }) (not (eqb (c .before .before .before .before .args .clamp) 0)))
 
 pub badge-lerp-spec : {M : Type 1} → statement M
 badge-lerp-spec =

@@ -24,10 +24,14 @@ enum-known-bracket : tie.Need-enum-known-bracket
 enum-known-bracket c = search needs
 
 put-color-requires : tie.Need-put-color-requires
-put-color-requires c κs = let a = c .before .before .before .before .before .before .before .before .before .before .before .before .args in both-four (length (a .dark .now)) (length (a .light .now)) (c .before .before .before .before .before .before .if1 .left) .0
+put-color-requires c κs =
+    let a = c .before .before .before .before .before .before .before .before .before .before .before .before .args in both-four (length (a .dark .now))
+    (length (a .light .now)) (c .before .before .before .before .before .before .if1 .left) .0
 
 put-color-requires-2 : tie.Need-put-color-requires-2
-put-color-requires-2 c κs = let a = c .before .before .before .before .before .before .before .before .before .before .before .before .before .before .before .before .args in both-four (length (a .dark .now)) (length (a .light .now)) (c .before .before .before .before .before .before .before .before .before .before .if1 .left) .1
+put-color-requires-2 c κs =
+    let a = c .before .before .before .before .before .before .before .before .before .before .before .before .before .before .before .before .args in both-four
+    (length (a .dark .now)) (length (a .light .now)) (c .before .before .before .before .before .before .before .before .before .before .if1 .left) .1
 
 enum-known-number : tie.Need-enum-known-number
 enum-known-number c = search needs
@@ -49,7 +53,13 @@ returns-2 c =
     let a = m .before .before .before .before .before .before .before .before .before .before .args in
     let e = bracket-four (a .reduced .now) (a .normalized .now) (a .oklab .now) (a .r) (a .g) (a .b) (a .width) (a .dark .now) (a .light .now)
     (m .before .before .before .before .if1 .left) (n .result) (n .ensures) (f .ensures) (m .bracket .given .1) in
-    (λ i. (0, c .before .before .before .before .before .before .put-color .ensures i, c .before .before .put-color2 .ensures i, m .bracket .given .0 .0 .ratio))
+    (λ i. (
+      0,
+      c .before .before .before .before .before .before .put-color .ensures i,
+      c .before .before .put-color2 .ensures i,
+      m .bracket .given .0 .0
+          .ratio,
+    ))
     ∙ left-by (bracketLeft (a .dark .now) (a .light .now) (a .ratio .now)) e
 
 returns-3 : tie.Need-returns-3
@@ -58,7 +68,8 @@ returns-3 c =
     let a = c .before .before .before .before .before .before .before .before .before .before .before .args in
     left-by (bracketLeft (a .dark .now) (a .light .now) (a .ratio .now))
     (bracket-four (a .reduced .now) (a .normalized .now) (a .oklab .now) (a .r) (a .g) (a .b) (a .width) (a .dark .now) (a .light .now)
-    (c .before .before .before .before .before .if1 .left) (n .result) (n .ensures) (c .before .before .before .flat-ordered-bracket .ensures) (c .before .number .given .1))
+    (c .before .before .before .before .before .if1 .left) (n .result) (n .ensures) (c .before .before .before .flat-ordered-bracket .ensures)
+    (c .before .number .given .1))
 
 pub badge-ordered-bracket-spec : {M : Type 1} → statement M
 badge-ordered-bracket-spec =

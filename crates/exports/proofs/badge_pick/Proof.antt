@@ -16,13 +16,18 @@ returns c =
 returns-2 : tie.Need-returns-2
 returns-2 c =
     let a = c .before .before .before .before .before .args in
-    left-by (pickedLeft (a .chosen .now)) (pick-lengths (a .dark .now) (a .light .now) (a .ratio) (a .kind) (a .x) (a .y) (a .chosen .now) (c .before .if1 .left) (c .if2 .taken))
+    left-by (pickedLeft (a .chosen .now)) (pick-lengths (a .dark .now) (a .light .now) (a .ratio) (a .kind) (a .x) (a .y) (a .chosen .now)
+    (c .before .if1 .left) (c .if2 .taken))
 
 color-in-requires : tie.Need-color-in-requires
-color-in-requires c κs = let a = c .before .before .before .before .before .args in all-three-four (length (a .dark .now)) (length (a .light .now)) (length (a .chosen .now)) (c .if2 .left) .0
+color-in-requires c κs =
+    let a = c .before .before .before .before .before .args in all-three-four (length (a .dark .now)) (length (a .light .now)) (length (a .chosen .now))
+    (c .if2 .left) .0
 
 color-in-requires-2 : tie.Need-color-in-requires-2
-color-in-requires-2 c κs = let a = c .before .before .before .before .before .before .args in all-three-four (length (a .dark .now)) (length (a .light .now)) (length (a .chosen .now)) (c .before .if2 .left) .1
+color-in-requires-2 c κs =
+    let a = c .before .before .before .before .before .before .args in all-three-four (length (a .dark .now)) (length (a .light .now)) (length (a .chosen .now))
+    (c .before .if2 .left) .1
 
 pick-requires : tie.Need-pick-requires
 pick-requires c κs = search needs
@@ -31,7 +36,9 @@ enum-known-color : tie.Need-enum-known-color
 enum-known-color c = search needs
 
 put-color-requires : tie.Need-put-color-requires
-put-color-requires c κs = let a = c .before .before .before .before .before .before .before .before .before .before .before .before .args in all-three-four (length (a .dark .now)) (length (a .light .now)) (length (a .chosen .now)) (c .before .before .before .before .before .before .before .if2 .left) .2
+put-color-requires c κs =
+    let a = c .before .before .before .before .before .before .before .before .before .before .before .before .args in all-three-four (length (a .dark .now))
+    (length (a .light .now)) (length (a .chosen .now)) (c .before .before .before .before .before .before .before .if2 .left) .2
 
 enum-known-number : tie.Need-enum-known-number
 enum-known-number c = search needs
@@ -49,7 +56,10 @@ returns-3 c =
     let l = c .before .before .before .before .before .before .before .before .color-in2 in
     (λ i. (0, c .before .before .put-color .ensures i))
     ∙ left-by (pickedLeft (a .chosen .now))
-    (pick-is (a .dark .now) (a .light .now) (a .ratio) (a .kind) (a .x) (a .y) (a .chosen .now) (c .before .before .before .before .before .before .before .before .before .before .before .if1 .left) (c .before .before .before .before .before .before .before .before .before .before .if2 .left) (d .result) (l .result) (d .ensures) (l .ensures) _ _ (c .before .before .before .before .before .before .before .pick .ensures) (c .before .before .before .before .before .color .given .1))
+    (pick-is (a .dark .now) (a .light .now) (a .ratio) (a .kind) (a .x) (a .y) (a .chosen .now)
+    (c .before .before .before .before .before .before .before .before .before .before .before .if1 .left)
+    (c .before .before .before .before .before .before .before .before .before .before .if2 .left) (d .result) (l .result) (d .ensures) (l .ensures) _ _
+    (c .before .before .before .before .before .before .before .pick .ensures) (c .before .before .before .before .before .color .given .1))
 
 returns-4 : tie.Need-returns-4
 returns-4 c =
@@ -57,7 +67,9 @@ returns-4 c =
     let d = c .before .before .before .before .before .color-in in
     let l = c .before .before .before .before .color-in2 in
     left-by (pickedLeft (a .chosen .now))
-    (pick-is (a .dark .now) (a .light .now) (a .ratio) (a .kind) (a .x) (a .y) (a .chosen .now) (c .before .before .before .before .before .before .before .if1 .left) (c .before .before .before .before .before .before .if2 .left) (d .result) (l .result) (d .ensures) (l .ensures) _ _ (c .before .before .before .pick .ensures) (c .before .number .given .1))
+    (pick-is (a .dark .now) (a .light .now) (a .ratio) (a .kind) (a .x) (a .y) (a .chosen .now)
+    (c .before .before .before .before .before .before .before .if1 .left) (c .before .before .before .before .before .before .if2 .left) (d .result)
+    (l .result) (d .ensures) (l .ensures) _ _ (c .before .before .before .pick .ensures) (c .before .number .given .1))
 
 pub badge-pick-spec : {M : Type 1} → statement M
 badge-pick-spec =
