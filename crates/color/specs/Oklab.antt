@@ -55,7 +55,7 @@ distanceAnswer a b (suc n) = Refused (suc n)
 abbrev pub OklabSqdistAnswered : (a b : Oklab) → Distance → Type 0
 OklabSqdistAnswered a b r = Answers numberOf (distanceReplies a b) (distanceAnswer a b) r
 
--- the answer that has the promise (proofs/Distances, `distance-answered`)
+-- the answer that has the promise (`answered` in replies/proofs/AnswerLaws)
 abbrev pub distanceOf : (a b : Oklab) → Distance
 distanceOf a b = distanceAnswer a b (firstReply (distanceReplies a b))
 

@@ -8,7 +8,7 @@ use native.Mathlib.Nat.{mul-le-mul, le-of-lt}
 use native.Mathlib.Omega.{arith}
 use lib.Dec.{T, eqb, eqb→eq}
 use mir.Facts.{or-yes}
-use Rattle.replies.proofs.AnswerLaws.{answered, answers}
+use Rattle.replies.proofs.AnswerLaws.{answers}
 use Rattle.mixing.specs.declared.Width.{Width}
 use Rattle.mixing.specs.Widths.{isShift, clampWidth, sixteenth, widthOf}
 use Rattle.mixing.specs.Widths.{numberOf, widthReplies, widthAnswer, BracketWidthAnswered, bracketWidthOf}
@@ -66,6 +66,3 @@ module _ (s m : ℕ) where
 
   pub width-promised : {r : Width} → r ≡ bracketWidthOf s m → BracketWidthAnswered s m r
   width-promised e = answers numberOf (widthReplies s) (widthAnswer s m) own e
-
-  pub width-answered : {r : Width} → BracketWidthAnswered s m r → r ≡ bracketWidthOf s m
-  width-answered p = answered numberOf (widthReplies s) (widthAnswer s m) p
