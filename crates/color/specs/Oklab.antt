@@ -54,7 +54,7 @@ distanceAnswer a b = valueOr (Squared (sqdistOf a b)) Refused
 abbrev pub OklabSqdistAnswered : (a b : Oklab) → Distance → Type 0
 OklabSqdistAnswered a b r = Answers numberOf (distanceReplies a b) (distanceAnswer a b) r
 
--- the answer that has the promise (proofs/Distances, `distance-answered`)
+-- the answer that has the promise (`answered` in replies/proofs/AnswerLaws)
 abbrev pub distanceOf : (a b : Oklab) → Distance
 distanceOf a b = distanceAnswer a b (firstReply (distanceReplies a b))
 

@@ -8,7 +8,7 @@ use native.Mathlib.Nat.{mul-le-mul, le-of-lt}
 use native.Mathlib.Omega.{arith}
 use lib.Dec.{T, eqb, eqb→eq}
 use mir.Facts.{or-yes}
-use Rattle.replies.proofs.AnswerLaws.{answered, value-promised}
+use Rattle.replies.proofs.AnswerLaws.{value-promised}
 use Rattle.mixing.specs.declared.Width.{Width}
 use Rattle.mixing.specs.declared.Width.the-variants.{Refused}
 use Rattle.mixing.specs.Widths.{isShift, clampWidth, sixteenth, widthOf}
@@ -62,6 +62,3 @@ width-full s m h k = full (m * s) (mul-le-mul (le-of-lt k) h)
 module _ (s m : ℕ) where
   pub width-promised : {r : Width} → r ≡ bracketWidthOf s m → BracketWidthAnswered s m r
   width-promised e = value-promised numberOf (widthReplies s) _ Refused refl (λ n. refl) e
-
-  pub width-answered : {r : Width} → BracketWidthAnswered s m r → r ≡ bracketWidthOf s m
-  width-answered p = answered numberOf (widthReplies s) (widthAnswer s m) p

@@ -43,6 +43,6 @@ widthAnswer shift m = valueOr (Of (widthOf shift m)) Refused
 abbrev pub BracketWidthAnswered : (shift m : ℕ) → Width → Type 0
 BracketWidthAnswered shift m r = Answers numberOf (widthReplies shift) (widthAnswer shift m) r
 
--- the answer that has the promise (proofs/Widths, `width-answered`)
+-- the answer that has the promise (`answered` in replies/proofs/AnswerLaws)
 abbrev pub bracketWidthOf : (shift m : ℕ) → Width
 bracketWidthOf shift m = widthAnswer shift m (firstReply (widthReplies shift))

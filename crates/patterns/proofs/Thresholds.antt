@@ -14,7 +14,7 @@ use lib.Ieee.{Float, nan, inf, fin, up, down, binary32, round, add, div, ofInt, 
 use lib.Ieee.Exact.{HasValue}
 use lib.Ieee.Fits.{and-l, and-r}
 use Rattle.replies.specs.Replies.{_if_, firstReply, Lowest}
-use Rattle.replies.proofs.AnswerLaws.{answered, value-number, value-promised}
+use Rattle.replies.proofs.AnswerLaws.{value-number, value-promised}
 use Rattle.replies.proofs.LowestLaws.{lowest-is}
 use Rattle.lists.proofs.Computed.{all, all-at}
 use Rattle.floats.specs.Over.{over, wholef}
@@ -53,9 +53,6 @@ sixty-four = refl
 module _ (k x y : ℕ) where
   pub threshold-promised : {r : Thresholded} → r ≡ thresholdOf k x y → OrderedThresholdAnswered k x y r
   threshold-promised e = value-promised numberOf (thresholdReplies k) _ Refused refl (λ n. refl) e
-
-  pub threshold-answered : {r : Thresholded} → OrderedThresholdAnswered k x y r → r ≡ thresholdOf k x y
-  threshold-answered p = answered numberOf (thresholdReplies k) (thresholdAnswer k x y) p
 
   -- 1 exactly above 10, 9 exactly for 0, 9 and 10
   pub number-is : numberOf (thresholdOf k x y) ≡ cond (leb k 10) (cond (leb 1 k && leb k 8) 0 9) 1

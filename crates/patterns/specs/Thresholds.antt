@@ -55,6 +55,6 @@ thresholdAnswer kind x y = valueOr (At (thresholdAt kind x y)) Refused
 abbrev pub OrderedThresholdAnswered : (kind x y : ℕ) → Thresholded → Type 0
 OrderedThresholdAnswered kind x y r = Answers numberOf (thresholdReplies kind) (thresholdAnswer kind x y) r
 
--- the answer that has the promise (proofs/Thresholds, `threshold-answered`)
+-- the answer that has the promise (`answered` in replies/proofs/AnswerLaws)
 abbrev pub thresholdOf : (kind x y : ℕ) → Thresholded
 thresholdOf kind x y = thresholdAnswer kind x y (firstReply (thresholdReplies kind))
