@@ -36,7 +36,7 @@ module _ (cs : Candidates) (some : 0 < cs .count) where
   nearest-among c = (nearestOf cs (toOklab c), nearest-inside (cs .oklab) (cs .count) (toOklab c) some, refl)
 
   module _ (range : (k : ℕ) → k < cs .count → T (allInRange (cs .oklab k))) where
-    pub ordered-among : (kind bracketWidth x y : ℕ) (c : NormalizedColor) → Among cs (orderedColor cs kind bracketWidth x y c)
+    ordered-among : (kind bracketWidth x y : ℕ) (c : NormalizedColor) → Among cs (orderedColor cs kind bracketWidth x y c)
     unfolding orderedColor colored pickAt
     ordered-among kind bracketWidth x y c = go (not (sameReduced (cs .reduced (at .dark)) (cs .reduced (at .light))) && lt (thresholdAt kind x y) (at .ratio))
       where
@@ -50,7 +50,7 @@ module _ (cs : Candidates) (some : 0 < cs .count) where
         go true = (at .light, inside .1, refl)
         go false = (at .dark, inside .0, refl)
 
-    pub color-among : (kind bracketWidth x y : ℕ) (c : NormalizedColor) → Among cs (colorAt cs kind bracketWidth x y c)
+    color-among : (kind bracketWidth x y : ℕ) (c : NormalizedColor) → Among cs (colorAt cs kind bracketWidth x y c)
     unfolding colorAt
     color-among kind bracketWidth x y c = go (isOrdered kind)
       where

@@ -39,7 +39,7 @@ module _ (d : Drawing) where
     unfolding biasedAt
     color-same = λ q. record { 0 = rgba (biased-same 0 q) (biased-same 1 q) (biased-same 2 q) (d .source i .0 .a) }
 
-    pub choice-same : choiceAt d f i ≡ choiceAt d g i
+    choice-same : choiceAt d f i ≡ choiceAt d g i
     unfolding choiceAt ditheredAt
     choice-same = λ q.
         cond (d .skipped i) (d .reduced i)
@@ -69,7 +69,7 @@ module _ (d : Drawing) where
       here = getD-append-add (choices d n) last 0 transparentReduced
 
   -- ---- what a drawn picture is, and all that it is
-  pub drawn-choice : (i : ℕ) → drawn d i ≡ choiceAt d (drawn d) i
+  drawn-choice : (i : ℕ) → drawn d i ≡ choiceAt d (drawn d) i
   unfolding drawn
   drawn-choice i = choice-same (λ j. getD (choices d i) j transparentReduced) (drawn d) i (λ j h. choices-at i j h)
 

@@ -264,9 +264,9 @@ impl Ditherer {
             (lent (now (reduction .entry)) (now (scale .entry)) (now (pixels .entry)) (now (colors .entry)) (now (oklab .entry)) count) in
             (c ≡ drawn d i) × (now (cells .exit) ≡ cellsBefore d (i + 1)) × TableOf (nearestAlone (oklabAt (now (oklab .entry))) count) (now (memory .exit))) ⌝ }
     {
-        let kept = picture::reduced_at(reduction, pixels, i);
-        if is_skipped(zero, kept) {
-            return kept;
+        let own = picture::reduced_at(reduction, pixels, i);
+        if is_skipped(zero, own) {
+            return own;
         }
         let color = picture::source_at(pixels, i);
         self.diffusion_color_at(linear, colors, scale, oklab, count, i, color, memory, cells)

@@ -1,7 +1,8 @@
--- What the number says: it is the lowest that applies (`number-is`); where none applies, all lengths fit (`accepted`). Assumes nothing.
-use mathlib.Core.Path.{_≡_, sym, _∙_}
+-- What the number says: it is the lowest that applies (`number-is`); the answer with a number has it (`own-number`); where none applies, all lengths fit
+-- (`accepted`). Assumes nothing.
+use mathlib.Core.Path.{_≡_, refl, sym, _∙_}
 use mathlib.Core.Bool.{false, not}
-use mathlib.Core.List.{List}
+use mathlib.Core.List.{List, []}
 use Prim.Native.Nat.{ℕ, _*_, _/_, _%_, _<_}
 use native.Mathlib.Omega.{arith}
 use borrow.Author.Tests.{ltb-false, eqb-false, not-false}
@@ -10,18 +11,23 @@ use lib.Ieee.{Float}
 use Rattle.lists.proofs.Bools.{or-split, equals}
 use Rattle.replies.specs.Replies.{Lowest, firstReply}
 use Rattle.replies.proofs.ReplyLaws.{reply-none}
-use Rattle.replies.proofs.AnswerLaws.{answers-lowest}
+use Rattle.replies.proofs.AnswerLaws.{answers-lowest, value-number}
 use Rattle.picture.specs.Bounds.{lentWrong}
 use Rattle.picture.proofs.BoundLaws.{sized, lent-so}
 use Rattle.patterns.specs.Kinds.{isKind, cellsNeeded}
 use Rattle.quantize.specs.declared.Quantization.{Quantization}
+use Rattle.quantize.specs.declared.Quantization.the-variants.{Accepted, Refused}
 use Rattle.quantize.specs.declared.Lengths.{Lengths}
-use Rattle.quantize.specs.Quantize.{Commission, size, lengthsWrong, entriesWrong, checks, replies, numberOf, Quantized}
+use Rattle.quantize.specs.Quantize.{Commission, size, lengthsWrong, entriesWrong, checks, replies, numberOf, answerOf, Quantized}
 use Rattle.quantize.specs.Steps.{Fitting}
 
 pub number-is : {q : Commission} {indices₀ out₀ : List ℕ} {cells₀ : List Float} {r : Quantization} {indices out : List ℕ} {cells : List Float}
     → Quantized q indices₀ out₀ cells₀ r indices out cells → Lowest (replies q indices₀ out₀ cells₀) (numberOf r)
 number-is p = answers-lowest _ _ _ tt (p .answer)
+
+-- the answer with a number has it
+pub own-number : (n : ℕ) → numberOf (answerOf n) ≡ n
+own-number = value-number numberOf [] Accepted Refused refl (λ n. refl)
 
 -- what is not 0 is more
 some-more : (n : ℕ) → eqb n 0 ≡ false → 0 < n

@@ -12,7 +12,7 @@ ghost use Rattle.color.specs.Color.{reducedAt};
 ghost use Rattle.picture.specs.Pixels.{reducedBy};
 ghost use Rattle.drawing.specs.Lent.{cellsAfter};
 ghost use Rattle.quantize.specs.Quantize.{commission, quantizing, indexOf, indexFor, indexBytes, indicesOf, pixelsOf};
-ghost use Rattle.quantize.specs.Quantize.{lengthsOf, lengthsWrong, entriesWrong, checks, Quantized};
+ghost use Rattle.quantize.specs.Quantize.{lengthsOf, lengthsWrong, entriesWrong, checks, answerOf, Quantized};
 ghost use Rattle.quantize.specs.Steps.{Fitting, Indexable};
 
 // What `quantize_pixels` answers.
@@ -72,6 +72,16 @@ fn refusal(shift: u32, kind: u32, width: u32, height: u32, s: Lengths) -> u8
     0
 }
 
+// The answer with a number.
+fn answer(number: u8) -> Quantization
+    ensures { λ r. ⌜ r ≡ answerOf number ⌝ }
+{
+    if number == 0 {
+        return Quantization::Accepted;
+    }
+    Quantization::Refused(number)
+}
+
 // ---- the index of a choice
 
 // The first palette entry equal to a colour, or their number where none is. No public call: the caller sees to the
@@ -96,10 +106,10 @@ fn pixel_index(palette: &[u8], count: usize, seen: bool, c: ReducedColor) -> u8
     requires { ⌜ (4 * count ≤ length (now palette)) × (seen ≡ true → indexOf (now palette) count c < 256) ⌝ }
     ensures { λ k. ⌜ k ≡ indexFor (now (palette .entry)) count seen c ⌝ }
 {
-    if seen {
-        return index_of(palette, count, c) as u8;
+    if !seen {
+        return 0;
     }
-    0
+    index_of(palette, count, c) as u8
 }
 
 // Gives each pixel its index, from the reduced choices that are lent. No public call: the caller sees to the lengths and the
@@ -206,7 +216,7 @@ pub fn quantize_pixels(
     };
     let number = refusal(shift, kind, width, height, lengths);
     if number != 0 {
-        return Quantization::Refused(number);
+        return answer(number);
     }
     let mut room = [0.0f32; 768];
     quantize(
@@ -223,5 +233,5 @@ pub fn quantize_pixels(
         out,
         cells,
     );
-    Quantization::Accepted
+    answer(number)
 }
