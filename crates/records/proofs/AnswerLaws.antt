@@ -71,59 +71,55 @@ number-none : (list : List CandidateColor) → 0 < length list → length list �
 unfolding numberBy countFits
 number-none list h l r = rw (lt-ltb 0 (length list) h, le-ltb 65536 (length list) l, is-true (rangedTo list (length list)) r)
 
--- ---- what is answered with the number of a list has the promise: it has that number itself
+-- ---- any answer by its number: it has that number, where 0's has; and where it is not 0 it is the refusal
+own-number : {A : Type 0} (numberOf : A → ℕ) (answer : ℕ → A) → numberOf (answer 0) ≡ 0 → ((n : ℕ) → numberOf (answer (suc n)) ≡ suc n)
+    → (n : ℕ) → numberOf (answer n) ≡ n
+own-number numberOf answer e h zero = e
+own-number numberOf answer e h (suc n) = h n
+
+own-refusal : {A : Type 0} (refusal answer : ℕ → A) → ((n : ℕ) → refusal (suc n) ≡ answer (suc n)) → (n : ℕ) → (n ≡ 0 → ⊥) → refusal n ≡ answer n
+own-refusal refusal answer h zero z = absurd (z refl)
+own-refusal refusal answer h (suc n) z = h n
+
+-- ---- what is answered with the number of a list has the promise
 module _ (list : List CandidateColor) (color : NormalizedColor) where
   pub nearest-promised : {r : FoundRecord} → r ≡ nearestRecordAnswer list color (recordsNumber list) → NearestRecord list color r
   unfolding numberBy
-  nearest-promised = answers numberOfRecord (recordReplies list) (nearestRecordAnswer list color) own
-    where
-      own : (n : ℕ) → numberOfRecord (nearestRecordAnswer list color n) ≡ n
-      own zero = refl
-      own (suc n) = refl
+  nearest-promised = let f = nearestRecordAnswer list color in answers numberOfRecord (recordReplies list) f (own-number numberOfRecord f refl (λ n. refl))
 
   module _ (width : ℕ) where
     pub two-promised : {r : FoundRecords} → r ≡ nearestTwoRecordsAnswer list color width (recordsNumber list) → NearestTwoRecords list color width r
     unfolding numberBy
-    two-promised = answers numberOfRecords (recordReplies list) (nearestTwoRecordsAnswer list color width) own
+    two-promised =
+        let f = nearestTwoRecordsAnswer list color width in
+        let t = nearestTwoOf (candidatesOf list) width (toOklab color) color in
+        answers numberOfRecords (recordReplies list) f (own-number numberOfRecords f (no (t .first) (t .second)) (λ n. refl))
       where
         no : (a : ℕ) (s : Second) → numberOfRecords (recordsAt list a s) ≡ 0
         no a Nothing = refl
         no a (At b) = refl
 
-        own : (n : ℕ) → numberOfRecords (nearestTwoRecordsAnswer list color width n) ≡ n
-        own zero = let t = nearestTwoOf (candidatesOf list) width (toOklab color) color in no (t .first) (t .second)
-        own (suc n) = refl
-
     pub bracket-promised : {r : FoundBracket} → r ≡ recordsBracketAnswer list color width (recordsNumber list) → RecordsBracket list color width r
     unfolding numberBy
-    bracket-promised = answers numberOfBracket (recordReplies list) (recordsBracketAnswer list color width) own
-      where
-        own : (n : ℕ) → numberOfBracket (recordsBracketAnswer list color width n) ≡ n
-        own zero = refl
-        own (suc n) = refl
+    bracket-promised =
+        let f = recordsBracketAnswer list color width in
+        answers numberOfBracket (recordReplies list) f (own-number numberOfBracket f refl (λ n. refl))
 
 -- ---- a refusal: the number of the list, which is not 0
 module _ (list : List CandidateColor) (color : NormalizedColor) {r : ℕ} (e : r ≡ recordsNumber list) (h : r ≡ 0 → ⊥) where
   pub nearest-refused : NearestRecord list color (one.Refused r)
-  nearest-refused = nearest-promised list color (own r h ∙ ap (nearestRecordAnswer list color) e)
-    where
-      own : (r : ℕ) → (r ≡ 0 → ⊥) → one.Refused r ≡ nearestRecordAnswer list color r
-      own zero h = absurd (h refl)
-      own (suc r) h = refl
+  nearest-refused = let f = nearestRecordAnswer list color in nearest-promised list color (own-refusal one.Refused f (λ n. refl) r h ∙ ap f e)
 
-  pub two-refused : (width : ℕ) → NearestTwoRecords list color width (both.Refused r)
-  two-refused width = two-promised list color width (own r h ∙ ap (nearestTwoRecordsAnswer list color width) e)
-    where
-      own : (r : ℕ) → (r ≡ 0 → ⊥) → both.Refused r ≡ nearestTwoRecordsAnswer list color width r
-      own zero h = absurd (h refl)
-      own (suc r) h = refl
+  module _ (width : ℕ) where
+    pub two-refused : NearestTwoRecords list color width (both.Refused r)
+    two-refused =
+        let f = nearestTwoRecordsAnswer list color width in
+        two-promised list color width (own-refusal both.Refused f (λ n. refl) r h ∙ ap f e)
 
-  pub bracket-refused : (width : ℕ) → RecordsBracket list color width (bracket.Refused r)
-  bracket-refused width = bracket-promised list color width (own r h ∙ ap (recordsBracketAnswer list color width) e)
-    where
-      own : (r : ℕ) → (r ≡ 0 → ⊥) → bracket.Refused r ≡ recordsBracketAnswer list color width r
-      own zero h = absurd (h refl)
-      own (suc r) h = refl
+    pub bracket-refused : RecordsBracket list color width (bracket.Refused r)
+    bracket-refused =
+        let f = recordsBracketAnswer list color width in
+        bracket-promised list color width (own-refusal bracket.Refused f (λ n. refl) r h ∙ ap f e)
 
 -- ---- what `chosen` answers
 module _ (list : List CandidateColor) (color : NormalizedColor) (len : ℕ) (near : Pass) (e : len ≡ length list)
@@ -132,11 +128,11 @@ module _ (list : List CandidateColor) (color : NormalizedColor) (len : ℕ) (nea
   number : r ≡ recordsNumber list
   number = number-is list len (near .ranged) r e (P .ranged) g
 
-  pub nearest-unmet : (r ≡ 0 → ⊥) → NearestRecord list color (one.Refused r)
-  nearest-unmet h = nearest-refused list color number h
+  pub chosen-refused : (r ≡ 0 → ⊥) → NearestRecord list color (one.Refused r)
+  chosen-refused h = nearest-refused list color number h
 
-  pub nearest-granted : T (allInRange (toOklab color)) → r ≡ 0 → NearestRecord list color (one.Chosen (getD (near .kept) 0 noEntry .color))
-  nearest-granted O z =
+  pub chosen-granted : T (allInRange (toOklab color)) → r ≡ 0 → NearestRecord list color (one.Chosen (getD (near .kept) 0 noEntry .color))
+  chosen-granted O z =
       let A = accepted list (sym number ∙ z) in
       nearest-promised list color (
       ap (λ (x : Entry). one.Chosen (x .color)) (nearest-kept list (toOklab color) near P O (A .positive) (A .ranged))

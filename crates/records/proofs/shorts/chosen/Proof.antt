@@ -1,5 +1,5 @@
 -- `shorts::chosen` meets its contract: the number of the list, or what the pass has kept first. Assumes nothing.
-use Rattle.records.proofs.AnswerLaws.{nearest-unmet, nearest-granted}
+use Rattle.records.proofs.AnswerLaws.{chosen-refused, chosen-granted}
 use borrow.Author.Needs.{needs}
 use Rattle.records.proofs.shorts.chosen.Statement.{statement}
 use Rattle.records.proofs.shorts.chosen.Tie as tie
@@ -10,7 +10,7 @@ refusal-requires c κs = search needs
 returns : tie.Need-returns
 returns c list color e O P =
     let n = c .before .refusal in
-    nearest-unmet list color (c .before .before .args .len) (c .before .before .args .near) e P (n .result) (n .ensures) (c .if1 .taken)
+    chosen-refused list color (c .before .before .args .len) (c .before .before .args .near) e P (n .result) (n .ensures) (c .if1 .taken)
 
 array-copy-out-a : tie.Need-array-copy-out-a
 array-copy-out-a c = search needs
@@ -19,7 +19,7 @@ returns-2 : tie.Need-returns-2
 returns-2 c list color e O P =
     let n = c .before .before .before .before .refusal in
     let s = c .before .before .before .before .before .args in
-    nearest-granted list color (s .len) (s .near) e P (n .result) (n .ensures) O (c .before .before .before .if1 .left)
+    chosen-granted list color (s .len) (s .near) e P (n .result) (n .ensures) O (c .before .before .before .if1 .left)
 
 pub chosen-spec : {M : Type 1} → statement M
 chosen-spec = tie.close (tie.spec refusal-requires returns array-copy-out-a returns-2)
