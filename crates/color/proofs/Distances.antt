@@ -6,7 +6,8 @@ use mathlib.Core.Bool.{_&&_}
 use lib.Dec.{T, lit≤, lit<}
 use lib.Ieee.{Float, binary32, round, add, sub, mul, neg, le, ofBits, fits}
 use lib.Ieee.Fits.{and-l, and-r, and-i, add-fits}
-use Rattle.replies.proofs.AnswerLaws.{value-promised}
+use Rattle.replies.specs.Replies.{Lowest}
+use Rattle.replies.proofs.AnswerLaws.{answers-lowest, value-promised}
 use Rattle.floats.specs.Over.{over}
 use Rattle.floats.specs.Bounds.{Within, Upto}
 use Rattle.floats.proofs.Range.{within-of-le, le-of-within}
@@ -80,3 +81,6 @@ distance-fits p q =
 module _ (a b : Oklab) where
   pub distance-promised : {r : Distance} → r ≡ distanceOf a b → OklabSqdistAnswered a b r
   distance-promised e = value-promised numberOf (distanceReplies a b) _ Refused refl (λ n. refl) e
+
+  pub distance-lowest : {r : Distance} → OklabSqdistAnswered a b r → Lowest (distanceReplies a b) (numberOf r)
+  distance-lowest p = answers-lowest _ _ _ tt p

@@ -1,19 +1,17 @@
 -- The lookups and `pick` through the C interface: positions are below 65,536, so that they fit a u32; what is refused for a length that is not 4, and
 -- that the flat calls' answers hold where all are; and that the numbers are the lowest that apply. Assumes nothing.
 use mathlib.Core.Path.{_≡_, refl, sym, ap, _∙_, subst}
-use mathlib.Core.Logic.{inl, inr}
 use mathlib.Core.List.{List, [], _∷_}
 use mathlib.Core.Bool.{Bool, true, false, not, _&&_}
 use Prim.Native.Nat.{ℕ, zero, suc, _/_, _≤_, _<_}
 use native.Mathlib.Omega.{arith}
-use borrow.Author.Tests.{eqb-true, le-leb, lt-leb, not-false}
-use lib.Dec.{T, eqb, ltb, ltb→lt}
+use borrow.Author.Tests.{eqb-true, not-false}
+use lib.Dec.{eqb}
 use lib.ListN.{length}
 use lib.Seq.{sets}
 use lib.Ieee.{Float}
-use lib.Ieee.Fits.{and-l, and-r}
-use Rattle.lists.proofs.Bools.{clash, and-split}
-use Rattle.replies.specs.Replies.{_if_, Reply, firstReply, risingFrom, Applies, Lowest}
+use Rattle.lists.proofs.Bools.{and-split}
+use Rattle.replies.specs.Replies.{firstReply, Lowest}
 use Rattle.replies.proofs.AnswerLaws.{answered}
 use Rattle.replies.proofs.LowestLaws.{lowest-is}
 use Rattle.color.specs.declared.Rgba8888.{Rgba8888}
@@ -23,7 +21,6 @@ use Rattle.color.specs.Color.{rgba, reducedAt, bytesOf}
 use Rattle.color.specs.Oklab.{oklabAt}
 use Rattle.conversion.specs.Oklab.{toOklab}
 use Rattle.patterns.specs.Kinds.{isKind}
-use Rattle.patterns.proofs.Numbers.{kind-is}
 use Rattle.patterns.specs.Thresholds.{thresholdReplies}
 use Rattle.shortlist.specs.Candidates.{flat}
 use Rattle.shortlist.proofs.NearestLaws.{nearest-inside}
@@ -125,14 +122,11 @@ module _ (dark light : List ℕ) (ratio : Float) (kind x y : ℕ) (chosen : List
   abbrev rooms : Bool
   rooms = isFour dark && (isFour light && isFour chosen)
 
-  pub pick-kind : 10 < kind → pickRooms dark light ratio kind x y chosen ≡ picked.Refused 1
+  pub pick-kind : not (isKind kind) ≡ true → pickRooms dark light ratio kind x y chosen ≡ picked.Refused 1
   unfolding pickRooms
-  pick-kind h = rw (kind-is kind, lt-leb kind 10 h)
+  pick-kind h = rw h
 
-  module _ (h : kind ≤ 10) where
-    known : isKind kind ≡ true
-    known = kind-is kind ∙ le-leb kind 10 h
-
+  module _ (known : not (isKind kind) ≡ false) where
     pub pick-lengths : not rooms ≡ true → pickRooms dark light ratio kind x y chosen ≡ picked.Refused 3
     unfolding pickRooms
     pick-lengths e = rw (known, e)
@@ -147,35 +141,12 @@ module _ (dark light : List ℕ) (ratio : Float) (kind x y : ℕ) (chosen : List
 
 -- ---- the numbers are the lowest that apply
 
--- what applies of replies that rise is above what they rise from
-rising-above : (n : ℕ) (xs : List Reply) → T (risingFrom n xs) → (m : ℕ) → Applies m xs → n < m
-rising-above n [] h m a = absurd a
-rising-above n (x ∷ xs) h m (inl a) = omega (arith, ltb→lt n (x .number) (and-l (ltb n (x .number)) (risingFrom (x .number) xs) h), a .1)
-rising-above n (x ∷ xs) h m (inr a) =
-    omega (
-      arith,
-      ltb→lt n (x .number) (and-l (ltb n (x .number)) (risingFrom (x .number) xs) h),
-      rising-above (x .number) xs (and-r (ltb n (x .number)) (risingFrom (x .number) xs) h) m a,
-    )
-
--- a reply in front of others that rise, whose number is none of theirs or the first of them
-front-lowest : (n : ℕ) (t : Bool) (xs : List Reply) → T (risingFrom 0 xs) → T (risingFrom n xs) → Lowest ((suc n if t) ∷ xs) (firstReply ((suc n if t) ∷ xs))
-front-lowest n true xs h l = record {
-  given = λ z. inl (refl, refl);
-  least = λ m a. elim a [ inl e ↦ (omega arith, omega (arith, e .1)) | inr b ↦ (omega arith, omega (arith, rising-above n xs l m b)) ];
-}
-front-lowest n false xs h l = record {
-  given = λ z. inr (lowest-is xs h .given z);
-  least = λ m a. elim a [ inl e ↦ absurd (clash (e .0) refl) | inr b ↦ lowest-is xs h .least m b ];
-}
-
 pub bracket-lowest : (reduced normalized : List ℕ) (oklab : List Float) (r g b width : ℕ) (dark light : List ℕ) (ratio : Float)
     → Lowest (badgeBracketReplies reduced normalized oklab dark light) (badgeOrderedBracket reduced normalized oklab r g b width dark light ratio .0)
 unfolding bracketRgb
 bracket-lowest reduced normalized oklab r g b width dark light ratio =
-    subst (Lowest (badgeBracketReplies reduced normalized oklab dark light))
-    (sym (number (firstReply (badgeBracketReplies reduced normalized oklab dark light))))
-    (front-lowest 2 (not (isFour dark && isFour light)) (listReplies reduced normalized oklab) tt tt)
+    let replies = badgeBracketReplies reduced normalized oklab dark light in
+    subst (Lowest replies) (sym (number (firstReply replies))) (lowest-is replies tt)
   where
     number : (n : ℕ) → bracketLeft dark light ratio (bracketAnswer reduced normalized oklab (opaqueRgb r g b) width n) .0 ≡ n
     number zero = refl

@@ -257,7 +257,7 @@ pub extern "C" fn badge_pick(
 ) -> u32
     ensures { λ n. ⌜ PromisedPick (now (dark .entry)) (now (light .entry)) ratio kind x y (now (chosen .entry)) (n, now (chosen .exit)) ⌝ }
 {
-    if kind > 10 {
+    if !patterns::is_kind(kind) {
         return 1;
     }
     if !((dark.len() == 4) & ((light.len() == 4) & (chosen.len() == 4))) {

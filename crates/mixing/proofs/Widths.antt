@@ -8,7 +8,8 @@ use native.Mathlib.Nat.{mul-le-mul, le-of-lt}
 use native.Mathlib.Omega.{arith}
 use lib.Dec.{T, eqb, eqb→eq}
 use mir.Facts.{or-yes}
-use Rattle.replies.proofs.AnswerLaws.{value-promised}
+use Rattle.replies.specs.Replies.{Lowest}
+use Rattle.replies.proofs.AnswerLaws.{answers-lowest, value-promised}
 use Rattle.mixing.specs.declared.Width.{Width}
 use Rattle.mixing.specs.declared.Width.the-variants.{Refused}
 use Rattle.mixing.specs.Widths.{isShift, clampWidth, sixteenth, widthOf}
@@ -62,3 +63,6 @@ width-full s m h k = full (m * s) (mul-le-mul (le-of-lt k) h)
 module _ (s m : ℕ) where
   pub width-promised : {r : Width} → r ≡ bracketWidthOf s m → BracketWidthAnswered s m r
   width-promised e = value-promised numberOf (widthReplies s) _ Refused refl (λ n. refl) e
+
+  pub width-lowest : {r : Width} → BracketWidthAnswered s m r → Lowest (widthReplies s) (numberOf r)
+  width-lowest p = answers-lowest _ _ _ tt p

@@ -14,8 +14,7 @@ use lib.Ieee.{Float, nan, inf, fin, up, down, binary32, round, add, div, ofInt, 
 use lib.Ieee.Exact.{HasValue}
 use lib.Ieee.Fits.{and-l, and-r}
 use Rattle.replies.specs.Replies.{_if_, firstReply, Lowest}
-use Rattle.replies.proofs.AnswerLaws.{value-number, value-promised}
-use Rattle.replies.proofs.LowestLaws.{lowest-is}
+use Rattle.replies.proofs.AnswerLaws.{answers-lowest, value-number, value-promised}
 use Rattle.lists.proofs.Computed.{all, all-at}
 use Rattle.floats.specs.Over.{over, wholef}
 use Rattle.floats.specs.Bounds.{Upto}
@@ -67,8 +66,8 @@ module _ (k x y : ℕ) where
       other false t = refl
 
 -- and it is the lowest that applies
-pub number-lowest : (k : ℕ) → Lowest (thresholdReplies k) (firstReply (thresholdReplies k))
-number-lowest k = lowest-is (thresholdReplies k) tt
+pub threshold-lowest : (k x y : ℕ) {r : Thresholded} → OrderedThresholdAnswered k x y r → Lowest (thresholdReplies k) (numberOf r)
+threshold-lowest k x y p = answers-lowest _ _ _ tt p
 
 -- the answer by how a kind dithers: the threshold, 9 where there is no matrix, 1 where there is no kind
 abbrev pub answerIn : Way → ℕ → ℕ → Thresholded

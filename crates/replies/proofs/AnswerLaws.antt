@@ -25,7 +25,7 @@ module _ {A : Type 0} (numberOf : A → ℕ) (replies : List Reply) (answerOf : 
   answers-only x y a b = answered a ∙ sym (answered b)
 
   -- of rising replies the number is the lowest that applies
-  pub answers-lowest : T (risingFrom 0 replies) → {r : A} → Answers numberOf replies answerOf r → Lowest replies (numberOf r)
+  pub answers-lowest : T (risingFrom 1 replies) → {r : A} → Answers numberOf replies answerOf r → Lowest replies (numberOf r)
   answers-lowest h a = subst (Lowest replies) (sym (a .number)) (lowest-is replies h)
 
 -- ---- one case holds a result: with a number that is not 0 a refusal is answered

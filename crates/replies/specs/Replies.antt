@@ -6,7 +6,7 @@ use mathlib.Core.Path.{_≡_}
 use mathlib.Core.Logic.{_⊎_}
 use mathlib.Core.Bool.{Bool, true, false, cond, not, _&&_}
 use mathlib.Core.List.{List, [], _∷_, _++_}
-use lib.Dec.{ltb, eqb}
+use lib.Dec.{leb, eqb}
 
 -- a number of the table, and whether it applies
 pub record Reply : Type 0 where
@@ -42,17 +42,17 @@ pub record FirstReply (xs : List Reply) (r : ℕ) : Type 0 where
 
 -- ---- document 01's "lowest number", which is the first where the numbers rise
 
--- the numbers rise, and the first is above n
+-- the numbers rise from n on: none is below n or below the one before it
 abbrev pub risingFrom : ℕ → List Reply → Bool
 risingFrom n [] = true
-risingFrom n (x ∷ xs) = ltb n (x .number) && risingFrom (x .number) xs
+risingFrom n (x ∷ xs) = leb n (x .number) && risingFrom (x .number) xs
 
 -- a reply with number n applies
 abbrev pub Applies : ℕ → List Reply → Type 0
 Applies n [] = ⊥
 Applies n (x ∷ xs) = ((x .applies ≡ true) × (x .number ≡ n)) ⊎ Applies n xs
 
--- r is the lowest number that applies, 0 where none does: what `firstReply` is of rising replies, and all that it is (proofs/LowestLaws)
+-- r is the lowest number that applies, 0 where none does: what `firstReply` is of replies that rise from 1 on, and all that it is (proofs/LowestLaws)
 pub record Lowest (xs : List Reply) (r : ℕ) : Type 0 where
   pub given : (r ≡ 0 → ⊥) → Applies r xs
   pub least : (n : ℕ) → Applies n xs → (0 < r) × (r ≤ n)
