@@ -8,7 +8,7 @@ use borrow.Author.Tests.{ne-eqb, eqb-true}
 use lib.Dec.{eqb}
 use lib.Ieee.{Float}
 use lib.ListN.{length}
-use Rattle.replies.specs.Replies.{firstReply, after}
+use Rattle.replies.specs.Replies.{after}
 use Rattle.candidates.specs.declared.CandidateCount.{CandidateCount}
 use Rattle.candidates.specs.declared.CandidateCount.the-variants as counted
 use Rattle.candidates.specs.Calls as colors

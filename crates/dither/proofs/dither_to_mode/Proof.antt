@@ -19,12 +19,9 @@ asked s = let a = s .args in commission (a .settings) (a .reduction .now) (a .sc
 abbrev held : tie.Start → Buffers
 held s = let a = s .args in buffers (a .places .now) (a .oklab .now) (a .out .now) (a .cells .now)
 
--- past the checks
+-- where the checks are passed
 abbrev start : tie.Else1 → tie.Start
 start c = c .before .before .before .before .before .before .before .before .before
-
-free : (c : tie.Else1) → firstReply (checks (asked (start c) .settings) (lengthsOf (asked (start c)) (held (start c)))) ≡ 0
-free c = sym (c .before .refusal .ensures) ∙ c .if1 .left
 
 refusal-requires : tie.Need-refusal-requires
 refusal-requires c κs = search needs
@@ -33,6 +30,10 @@ returns : tie.Need-returns
 returns c =
     let s = c .before .before .before .before .before .before .before .before .before in
     call-refused (asked s) (held s) (c .before .refusal .ensures) (c .if1 .taken)
+
+-- past the checks no number is given
+free : (c : tie.Else1) → firstReply (checks (asked (start c) .settings) (lengthsOf (asked (start c)) (held (start c)))) ≡ 0
+free c = sym (c .before .refusal .ensures) ∙ c .if1 .left
 
 cast-size : tie.Need-cast-size
 cast-size c = search needs
