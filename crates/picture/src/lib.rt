@@ -28,7 +28,8 @@ fn table_wrong(entries: usize) -> bool
     entries != 256
 }
 
-// Whether a table or the pixels that every call on a picture is lent have not the length that n pixels need.
+// Whether a table or the pixels that every call on a picture is lent have not the length that n pixels need. No public
+// call: the caller sees to the number of pixels.
 pub fn lent_wrong(reduction: usize, scale: usize, pixels: usize, n: usize) -> bool
     requires { ⌜ n ≤ 1048576 ⌝ }
     ensures { λ r. ⌜ r ≡ lentWrong reduction scale pixels n ⌝ }
