@@ -13,7 +13,7 @@ ghost use Rattle.mixing.specs.Lerp.{between};
 ghost use Rattle.lookup.specs.Second.{secondBeside, BestBeside, improved, weighed};
 
 // From 0 to 1. Minus zero is, a NaN is not.
-fn is_share(t: f32) -> bool
+pub fn is_share(t: f32) -> bool
     ensures { λ r. ⌜ r ≡ between t ⌝ }
 {
     (0.0 <= t) & (t <= 1.0)
@@ -21,7 +21,7 @@ fn is_share(t: f32) -> bool
 
 // k with its error, where it mixes, and there is no best yet or its error is below the best's. One test, since which of its
 // parts decides is anyone's guess.
-fn improve(best: Best, k: usize, mixes: bool, error: f32) -> Best
+pub fn improve(best: Best, k: usize, mixes: bool, error: f32) -> Best
     ensures { λ r. ⌜ r ≡ improved best k mixes error ⌝ }
 {
     if mixes & ((best.found == 0) | (error < best.error)) {
@@ -35,7 +35,7 @@ fn improve(best: Best, k: usize, mixes: bool, error: f32) -> Best
 }
 
 // Entry k's turn: it counts where the unclamped `lerp` is from 0 to 1.
-pub fn weigh(
+pub(crate) fn weigh(
     best: Best,
     k: usize,
     a: NormalizedColor,

@@ -5,13 +5,16 @@ use color::normalize_color;
 use color::rgba_at;
 use lookup::Best;
 use lookup::Second;
+use lookup::seconds::improve;
+use lookup::seconds::is_share;
 use lookup::seconds::second_by;
-use lookup::seconds::weigh;
+use mixing::lerp;
+use mixing::mix_residual;
 ghost use mathlib.Core.Path.{_≡_};
 ghost use Prim.Native.Nat.{ℕ, _+_, _*_, _<_, _≤_};
 ghost use lib.ListN.{length, getD, take};
 ghost use Rattle.shortlist.specs.Candidates.{normals};
-ghost use Rattle.lookup.specs.Second.{secondBeside, BestBeside};
+ghost use Rattle.lookup.specs.Second.{secondBeside, BestBeside, weighed};
 
 // Entry k of a list of reduced bytes, normalised. No public call: the caller sees to the lengths.
 pub fn normal_at(colors: &[u8], scale: &[u8], k: usize) -> NormalizedColor
@@ -19,6 +22,21 @@ pub fn normal_at(colors: &[u8], scale: &[u8], k: usize) -> NormalizedColor
     ensures { λ r. ⌜ r ≡ normals (now (colors .entry)) (now (scale .entry)) k ⌝ }
 {
     normalize_color(scale, ReducedColor(rgba_at(colors, k)))
+}
+
+// Entry k's turn, as `weigh` of crate `lookup` has it. It stands here again because a function with one caller is compiled
+// into it, and these turns take much of an ordered picture's time.
+fn weigh(
+    best: Best,
+    k: usize,
+    a: NormalizedColor,
+    b: NormalizedColor,
+    color: NormalizedColor,
+) -> Best
+    ensures { λ r. ⌜ r ≡ weighed best k a b color ⌝ }
+{
+    let t = lerp(a, b, color, false);
+    improve(best, k, is_share(t), mix_residual(a, b, t, color))
 }
 
 // The best of the shortlist's entries beside entry a, if one of them mixes.
