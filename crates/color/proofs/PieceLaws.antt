@@ -1,5 +1,5 @@
 -- Colours in lists that are made of them. Colour i of gathered bytes or floats is what was gathered (`rgba-gathered`, `oklab-gathered`); in a buffer
--- that a loop fills, a colour that it has come to is what was put there (`rgba-filled`, `oklab-filled`), and another is as it was (`rgba-rest`).
+-- that a loop fills, a colour that it has come to is what was put there (`rgba-filled`), and another is as it was (`rgba-rest`).
 -- Assumes nothing.
 use mathlib.Core.Path.{_≡_, refl, sym, _∙_, ap}
 use mathlib.Core.List.{List}
@@ -48,6 +48,3 @@ module _ (f : ℕ → Rgba8888) where
 module _ (f : ℕ → Oklab) where
   pub oklab-gathered : (n i : ℕ) → i < n → oklabAt (gather n (λ k. floatsOf (f k))) i ≡ f i
   oklab-gathered n i h = oklab-is _ i (f i) (λ j l. gather-at 3 (λ k. floatsOf (f k)) (λ k. refl) nan n i j h l)
-
-  pub oklab-filled : (d : List Float) (n i : ℕ) → i < n → oklabAt (filled 3 n (λ k. floatsOf (f k)) d) i ≡ f i
-  oklab-filled d n i h = oklab-is _ i (f i) (λ j l. filled-at 3 (λ k. floatsOf (f k)) (λ k. refl) nan d n i j h l)

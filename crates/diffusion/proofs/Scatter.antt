@@ -1,5 +1,5 @@
 -- Scattering pixel by pixel from zeros gives the gathered sums, for any kernel: after n pixels the buffer holds what each pixel received from
--- them, and nothing else does; every cell of it is small; at the end it holds the cells of the picture. Assumes nothing.
+-- them; every cell of it is small; at the end it holds the cells of the picture. Assumes nothing.
 use mathlib.Core.Path.{_≡_, refl, sym, ap, _∙_, subst}
 use mathlib.Core.Bool.{Bool, true, false, cond, _&&_}
 use mathlib.Core.List.{List, [], _∷_, map}
@@ -10,7 +10,7 @@ use borrow.Author.Tests.{eq-eqb, ne-eqb, eqb-true, eqb-false}
 use lib.Dec.{T, eqb, lit<}
 use lib.IntN.{ℤ, pos, natAbs, _+ℤ_, _*ℤ_, +ℤ-idr, +ℤ-assoc, *ℤ-zero, zero-*ℤ}
 use lib.ListN.{length, getD, set, replicate, length-set, length-replicate, getD-replicate, length-map, List·getD-map}
-use lib.Seq.{getD-set-same, getD-set-other, set-getD, ext-getD}
+use lib.Seq.{getD-set-same, getD-set-other, set-getD}
 use Rattle.lists.proofs.GatherLaws.{gather-only}
 use Rattle.floats.specs.Over.{sixteenths}
 use Rattle.floats.proofs.Int.{times-add}
@@ -172,13 +172,6 @@ module _ (k : List Target) (p : Picture) where
   unfolding scatter
   scattered zero l = holds-begin
   scattered (suc n) l = holds-more n (scatter k p n) l (scattered n (omega arith))
-
-  -- and no other buffer does
-  pub holds-only : (n : ℕ) (cells cells′ : List ℤ) → Holds k p n cells → Holds k p n cells′ → cells ≡ cells′
-  holds-only n cells cells′ h h′ =
-      ext-getD (pos 0) cells cells′ (h .size ∙ sym (h′ .size))
-      (λ q l. by-pixel (λ q. getD cells q (pos 0) ≡ getD cells′ q (pos 0)) (p .width * p .height) (λ a i A m. h .each a i A m ∙ sym (h′ .each a i A m)) q
-      (subst (λ (m : ℕ). q < m) (h .size) l))
 
   -- every cell of such a buffer lies within 4080 sixteenths
   pub holds-small : total k ≤ 16 → ((a j : ℕ) → a < 3 → p .chosen a j ≤ 255) → (n : ℕ) (cells : List ℤ) → Holds k p n cells → (q : ℕ) → q < length cells
