@@ -262,7 +262,8 @@ impl Ditherer {
             × (now cells ≡ cellsBefore (drawingOf self zero l) i) × TableOf (nearestAlone (oklabAt (now oklab)) count) (now memory)) ⌝ }
         ensures { λ c. ⌜ (let d = drawingOf self zero
             (lent (now (reduction .entry)) (now (scale .entry)) (now (pixels .entry)) (now (colors .entry)) (now (oklab .entry)) count) in
-            (c ≡ drawn d i) × (now (cells .exit) ≡ cellsBefore d (i + 1)) × TableOf (nearestAlone (oklabAt (now (oklab .entry))) count) (now (memory .exit))) ⌝ }
+            (c ≡ drawn d i) × (now (cells .exit) ≡ cellsBefore d (i + 1))
+            × TableOf (nearestAlone (oklabAt (now (oklab .entry))) count) (now (memory .exit))) ⌝ }
     {
         let own = picture::reduced_at(reduction, pixels, i);
         if is_skipped(zero, own) {

@@ -20,6 +20,6 @@ use Rattle.examples.specs.Table.{Row, table}
 
 pub examples : map (λ (r : Row). r .given) table ≡ map (λ (r : Row). r .said) table
 unfolding round add sub mul div eq lt ofInt over byteF dot byteMinus along shareOf clampOf lerpOf isShift widthOf kindOf wayOf isKind isOrdered thresholdFrom
-    thresholdAt linearOf digits rootOf nearest halves clip biasedOf total place landing sum isAt weightTo residualOf received cell residual lossOf loss overDithered
-    sources choices excess lost sent sentTo isSkipped isOutside toSkipped dropped held
+    thresholdAt linearOf digits rootOf nearest halves clip biasedOf total place landing sum isAt weightTo residualOf received cell residual lossOf loss
+    overDithered sources choices excess lost sent sentTo isSkipped isOutside toSkipped dropped held
 examples = refl
