@@ -1,5 +1,5 @@
-# Read by the run scripts of bindings/ and fuzz/: finds the archive, or has it built. They set `root` first, the repository's
-# root.
+# Read by the run scripts of bindings/, fuzz/ and formats/: finds the archive, or has it built. They set `root` first, the
+# repository's root.
 
 # Ends the script with one line.
 die() {

@@ -1,5 +1,5 @@
 /*
- * The twelve functions of the C interface, each tried once: makes arbitrary arguments, calls it, holds the number and every
+ * The sixteen functions of the C interface, each tried once: makes arbitrary arguments, calls it, holds the number and every
  * buffer to what they have to be, and returns the number.
  */
 #ifndef CALLS_H
@@ -24,5 +24,11 @@ uint32_t try_pick(void);
 uint32_t try_candidate_colors_in(void);
 uint32_t try_quantize_pixels(void);
 uint32_t try_dither_to_mode(void);
+
+/* pams.c */
+uint32_t try_pam_size(void);
+uint32_t try_read_pam(void);
+uint32_t try_pam_length(void);
+uint32_t try_write_pam(void);
 
 #endif

@@ -1,8 +1,8 @@
 /*
- * A fuzz of the C interface: arbitrary calls of all twelve functions (calls.h) with buffers of exact length (lent.h). After
+ * A fuzz of the C interface: arbitrary calls of all sixteen functions (calls.h) with buffers of exact length (lent.h). After
  * each call the number is held to the scope document's table, worked out here anew (table.h), and every buffer to what the
  * table says is left; a tile over its limit alone is taken as it comes, with its effects checked. What the values are is for
- * the comparison with the original to say (oracle/). Here is the run:
+ * the comparison with the original to say (oracle/), but those of PAM files are worked out here (pam_file.h). Here is the run:
  *
  *   fuzz [--heap] SEED COUNT [FROM]
  *
@@ -23,7 +23,7 @@
 
 uint64_t random_state;
 
-enum { CALLS = 12, NUMBERS = BADGE_REFUSED_NO_MATRIX + 1 };
+enum { CALLS = 16, NUMBERS = BADGE_REFUSED_PAM_PIXELS + 1 };
 
 /* The numbers that a call may give beside 0, as bits. */
 enum {
@@ -36,6 +36,8 @@ enum {
     MANY = 1 << BADGE_REFUSED_TOO_MANY_CANDIDATES,
     OVER = 1 << BADGE_REFUSED_TILE_OVER,
     NO_MATRIX = 1 << BADGE_REFUSED_NO_MATRIX,
+    HEADER = 1 << BADGE_REFUSED_PAM_HEADER,
+    PIXELS = 1 << BADGE_REFUSED_PAM_PIXELS,
     LIST = LENGTH | ENTRIES | COMPONENT
 };
 
@@ -56,6 +58,10 @@ static const struct {
     {"candidate_colors_in", try_candidate_colors_in, KIND | SIZE | LENGTH | MANY},
     {"quantize_pixels", try_quantize_pixels, KIND | SIZE | LENGTH | ENTRIES},
     {"dither_to_mode", try_dither_to_mode, KIND | SIZE | LENGTH | TILES | MANY | OVER},
+    {"pam_size", try_pam_size, HEADER | SIZE | PIXELS},
+    {"read_pam", try_read_pam, HEADER | SIZE | PIXELS | LENGTH},
+    {"pam_length", try_pam_length, HEADER | SIZE},
+    {"write_pam", try_write_pam, HEADER | SIZE | LENGTH},
 };
 
 static uint64_t given[CALLS][NUMBERS];

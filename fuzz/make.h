@@ -38,6 +38,9 @@ Lent *make_scale(uint32_t shift);
 Lent *make_pixels(size_t pixels);
 Lent *make_palette(const Lent *reduction);
 
+/* A lent PAM file, right as a rule, and how many pixels of which size it means to have. */
+Lent *make_pam(Size *size);
+
 /* Lent Oklab colours. */
 Lent *make_oklab(size_t len);
 

@@ -4,6 +4,7 @@
  */
 #include <stdbool.h>
 #include <stdlib.h>
+#include <string.h>
 
 #include "badge_dither.h"
 
@@ -18,10 +19,24 @@
         size_t pixels_len, uint8_t *places, size_t places_len, float *oklab, size_t oklab_len, uint8_t *out, size_t out_len, \
         float *cells, size_t cells_len, uint32_t *count, uint32_t *tile
 
+#define SIDES uint32_t width, uint32_t height
+#define PAM_SIZE const uint8_t *file, size_t file_len, uint32_t *width, uint32_t *height
+#define READ_PAM const uint8_t *file, size_t file_len, uint8_t *pixels, size_t pixels_len, uint32_t *width, uint32_t *height
+#define PAM_LENGTH SIDES, uint64_t *length
+#define WRITE_PAM SIDES, const uint8_t *pixels, size_t pixels_len, uint8_t *file, size_t file_len
+
 uint32_t __real_badge_quantize_pixels(QUANTIZE);
 uint32_t __wrap_badge_quantize_pixels(QUANTIZE);
 uint32_t __real_badge_dither_to_mode(TO_MODE);
 uint32_t __wrap_badge_dither_to_mode(TO_MODE);
+uint32_t __real_badge_pam_size(PAM_SIZE);
+uint32_t __wrap_badge_pam_size(PAM_SIZE);
+uint32_t __real_badge_read_pam(READ_PAM);
+uint32_t __wrap_badge_read_pam(READ_PAM);
+uint32_t __real_badge_pam_length(PAM_LENGTH);
+uint32_t __wrap_badge_pam_length(PAM_LENGTH);
+uint32_t __real_badge_write_pam(WRITE_PAM);
+uint32_t __wrap_badge_write_pam(WRITE_PAM);
 
 static int slip(void)
 {
@@ -82,6 +97,75 @@ uint32_t __wrap_badge_dither_to_mode(TO_MODE)
     case 14: if (over) *tile = 0xffffffffu; break;                      /* invents a tile */
     case 15: if (over) number = 1000; break;                            /* a number that there is not */
     case 16: if (accepted && oklab_len) oklab[oklab_len - 1] += 1.0f; break;
+    default: break;
+    }
+    return number;
+}
+
+/* Whether a file has a number of five digits or more, but for zeros in front. */
+static bool has_large_number(const uint8_t *file, size_t file_len)
+{
+    size_t digits = 0;
+    for (size_t i = 0; i < file_len && digits < 5; i++)
+        digits = file[i] < '0' || file[i] > '9' ? 0 : digits + (digits != 0 || file[i] != '0');
+    return digits == 5;
+}
+
+uint32_t __wrap_badge_pam_size(PAM_SIZE)
+{
+    uint32_t number = __real_badge_pam_size(file, file_len, width, height), first = *width;
+    bool accepted = number == BADGE_ACCEPTED, header = number == BADGE_REFUSED_PAM_HEADER;
+    switch (slip()) {
+    case 17: if (header && has_large_number(file, file_len)) number = BADGE_REFUSED_SIZE; break; /* 2 before 10 */
+    case 18: if (number == BADGE_REFUSED_SIZE) number = BADGE_REFUSED_PAM_PIXELS; break;         /* 11 before 2 */
+    case 19: if (header) *height = 0; break; /* writes behind a pointer where it refuses */
+    case 20: if (accepted) *width = *height, *height = first; break;
+    default: break;
+    }
+    return number;
+}
+
+uint32_t __wrap_badge_read_pam(READ_PAM)
+{
+    uint32_t number = __real_badge_read_pam(file, file_len, pixels, pixels_len, width, height);
+    bool accepted = number == BADGE_ACCEPTED, bytes = number == BADGE_REFUSED_PAM_PIXELS;
+    bool rgb = accepted && pixels[pixels_len - 1] != file[file_len - 1]; /* the file ends with a blue, and not with an alpha */
+    switch (slip()) {
+    case 21: if (rgb) pixels[pixels_len - 1] = 0; break;             /* alpha 0 */
+    case 22: if (bytes && pixels_len) pixels[0] ^= 1; break;         /* changes a buffer where it refuses */
+    case 23: if (bytes) number = BADGE_REFUSED_LENGTH; break;        /* 3 for 11 */
+    case 24: /* takes a file with a byte left over */
+        if (bytes) number = __real_badge_read_pam(file, file_len - 1, pixels, pixels_len, width, height);
+        break;
+    case 25: if (file_len) read_byte(file + file_len); break;        /* reads after the file */
+    case 26: if (number == BADGE_REFUSED_LENGTH) *width ^= 1; break; /* writes behind a pointer where it refuses */
+    default: break;
+    }
+    return number;
+}
+
+uint32_t __wrap_badge_pam_length(PAM_LENGTH)
+{
+    uint32_t number = __real_badge_pam_length(width, height, length);
+    bool header = number == BADGE_REFUSED_PAM_HEADER;
+    switch (slip()) {
+    case 27: if (header && width + height > 4096) number = BADGE_REFUSED_SIZE; break;      /* 2 before 10 */
+    case 28: if (number == BADGE_ACCEPTED && width > 9 && height > 9) *length -= 1; break; /* a digit too few */
+    default: break;
+    }
+    return number;
+}
+
+uint32_t __wrap_badge_write_pam(WRITE_PAM)
+{
+    static const char lines[] = "MAXVAL 255\nDEPTH 4\nTUPLTYPE RGB_ALPHA\nENDHDR\n"; /* two of them the other way round */
+    uint32_t number = __real_badge_write_pam(width, height, pixels, pixels_len, file, file_len);
+    bool accepted = number == BADGE_ACCEPTED;
+    switch (slip()) {
+    case 29: if (accepted) memcpy(file + file_len - pixels_len - strlen(lines), lines, strlen(lines)); break;
+    case 30: if (accepted) file[file_len - 1] ^= 1; break;
+    case 31: if (number == BADGE_REFUSED_LENGTH && file_len) file[0] = 'P'; break; /* writes where it refuses */
+    case 32: if (accepted) write_again(file + file_len); break;                    /* writes after the file */
     default: break;
     }
     return number;

@@ -1,8 +1,10 @@
 /*
- * The twelve calls of the C interface, and what each is measured over: all kinds and shifts, palettes of 256 entries, lists of
- * 65,536, refusals. See stack.h.
+ * The sixteen calls of the C interface, and what each is measured over: all kinds and shifts, palettes of 256 entries, lists of
+ * 65,536, PAM files of both depths, refusals. See stack.h.
  */
 #include "stack.h"
+
+#include <stdio.h>
 
 #include "badge_dither.h"
 #include "random.h"
@@ -14,12 +16,13 @@ uint64_t random_state = 1;
 /* ---- what is lent */
 
 static uint8_t reduction[256], scale[256], palette[4 * 256], pixels[4 * PIXELS], indices[PIXELS], out[4 * PIXELS];
+static uint8_t file[4 * PIXELS + 200];
 static uint8_t places[4 * ENTRIES], colors[4 * ENTRIES], dark[4], light[4] = {31, 31, 31, 255}, chosen[4];
 static float cells[3 * PIXELS], oklab[3 * ENTRIES], list_oklab[3 * ENTRIES];
 
 static struct {
-    uint32_t kind, shift, side, limit, tile_side, has_zero;
-    size_t entries, places;
+    uint32_t kind, shift, side, width, height, limit, tile_side, has_zero;
+    size_t entries, places, pixels_len, file_len;
     uint8_t r, g, b;
     float component;
 } now;
@@ -126,6 +129,26 @@ static void call_dither_to_mode(void)
                          cells_now(), &u32_out, &u32_other);
 }
 
+static void call_pam_size(void)
+{
+    badge_pam_size(file, now.file_len, &u32_out, &u32_other);
+}
+
+static void call_read_pam(void)
+{
+    badge_read_pam(file, now.file_len, out, 4 * pixels_now(), &u32_out, &u32_other);
+}
+
+static void call_pam_length(void)
+{
+    badge_pam_length(now.width, now.height, &u64_out);
+}
+
+static void call_write_pam(void)
+{
+    badge_write_pam(now.width, now.height, pixels, now.pixels_len, file, now.file_len);
+}
+
 /* ---- what each is measured over */
 
 static void over_colors(bool by_steps)
@@ -202,6 +225,41 @@ static void over_modes(bool by_steps)
     }
 }
 
+/* Files of both depths, each also with a byte too few and lent pixels of another length, and headers that are refused. */
+static void over_files(bool by_steps)
+{
+    static const struct {
+        const char *header;
+        size_t depth;
+    } some[] = {{"P7\nWIDTH %u\nHEIGHT %u\nDEPTH 4\nMAXVAL 255\nTUPLTYPE RGB_ALPHA\nENDHDR\n", 4},
+                {"P7\n# any\nTUPLTYPE RGB\n \t\n\vMAXVAL 000255\r\nHEIGHT %u\nWIDTH %u\n DEPTH  3 \nENDHDR\n", 3},
+                {"P7\nWIDTH %u00000000000000000000\nHEIGHT %u\nDEPTH 3\nMAXVAL 255\nTUPLTYPE RGB\nENDHDR\n", 3},
+                {"P7\nWIDTH %u %u\nENDHDR\n", 4}};
+    for (size_t i = 0; i < 8; i++) {
+        now.side = by_steps ? 3 : SIDE;
+        int header = snprintf((char *)file, 200, some[i / 2].header, (unsigned)now.side, (unsigned)now.side);
+        now.file_len = (size_t)header + some[i / 2].depth * pixels_now() - i % 2;
+        measure(by_steps);
+        now.side--;
+        measure(by_steps);
+    }
+}
+
+/* Sides of one to four digits, one that is too large and one of 0; a file of the right length and a longer one. */
+static void over_sides(bool by_steps)
+{
+    static const uint32_t some[][2] = {{1, 1}, {12, 3}, {4097, 1}, {0, 5}, {1, 123}, {SIDE, SIDE}, {PIXELS, 1}};
+    for (size_t i = 0; i < (by_steps ? 4 : 7); i++)
+        for (size_t more = 0; more < 2; more++) {
+            now.width = some[i][0], now.height = some[i][1];
+            now.pixels_len = now.width <= PIXELS ? (size_t)4 * now.width * now.height : 0;
+            u64_out = 0;
+            call_pam_length();
+            now.file_len = u64_out + more;
+            measure(by_steps);
+        }
+}
+
 const Measured measured[] = {
     {"badge_to_oklab", call_to_oklab, over_colors},
     {"badge_oklab_sqdist", call_oklab_sqdist, over_components},
@@ -215,6 +273,10 @@ const Measured measured[] = {
     {"badge_candidate_colors_in", call_candidate_colors_in, over_rooms},
     {"badge_quantize_pixels", call_quantize_pixels, over_palettes},
     {"badge_dither_to_mode", call_dither_to_mode, over_modes},
+    {"badge_pam_size", call_pam_size, over_files},
+    {"badge_read_pam", call_read_pam, over_files},
+    {"badge_pam_length", call_pam_length, over_sides},
+    {"badge_write_pam", call_write_pam, over_sides},
 };
 
 const size_t measured_count = sizeof measured / sizeof measured[0];

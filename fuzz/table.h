@@ -1,6 +1,6 @@
 /*
- * The scope document's table of refusals, as tests of their own: what each is said for, except too many candidates and a tile
- * over its limit, which depend on the picture.
+ * The scope document's table of refusals, and those of the requests after it, as tests of their own: what each is said for,
+ * except too many candidates and a tile over its limit, which depend on the picture, and what a PAM file's bytes are.
  */
 #ifndef TABLE_H
 #define TABLE_H
@@ -44,6 +44,14 @@ static inline bool shift_wrong(uint32_t shift)
 static inline bool size_wrong(uint32_t width, uint32_t height)
 {
     return width > 4096 || height > 4096 || width * height > 1048576;
+}
+
+/* The number of a picture that a PAM file has or is to have, but for its bytes. */
+static inline uint32_t pam_number(uint32_t width, uint32_t height)
+{
+    if (width == 0 || height == 0)
+        return BADGE_REFUSED_PAM_HEADER;
+    return size_wrong(width, height) ? BADGE_REFUSED_SIZE : BADGE_ACCEPTED;
 }
 
 static inline bool origin_wrong(uint32_t origin, uint32_t side)

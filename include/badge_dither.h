@@ -3,9 +3,10 @@
  * writes.
  *
  * Numbers. Kinds and refusals are numbers, which `enum badge_kind` and `enum badge_refusal` name; a call takes any number as a
- * kind. A call that can refuse returns 0, BADGE_ACCEPTED, where it accepts, and otherwise the lowest number that applies. It
- * can be refused with the numbers that its comment names, without their BADGE_REFUSED_, and with no others. A refusal changes
- * nothing: what is behind a pointer and what is in a buffer is as it was, unless the call's comment says otherwise.
+ * kind. A call that can refuse returns 0, BADGE_ACCEPTED, where it accepts. It can be refused with the numbers that its comment
+ * names, without their BADGE_REFUSED_, and with no others; where several apply, with the first in the comment's order. A
+ * refusal changes nothing: what is behind a pointer and what is in a buffer is as it was, unless the call's comment says
+ * otherwise.
  *
  * Buffers. A buffer is a pointer and, after it, a length that counts elements: bytes of a uint8_t buffer, floats of a float
  * buffer. The pointer may be null where the length is 0. A pointer to a single value is never null. What a call writes must
@@ -65,7 +66,11 @@ enum badge_refusal {
     /* a tile that is over its limit */
     BADGE_REFUSED_TILE_OVER = 8,
     /* a threshold or a pick asked of a kind that is not ordered */
-    BADGE_REFUSED_NO_MATRIX = 9
+    BADGE_REFUSED_NO_MATRIX = 9,
+    /* a PAM file whose header is not one of those that are read, or a picture without pixels, to be read or to be written */
+    BADGE_REFUSED_PAM_HEADER = 10,
+    /* a PAM file that has fewer bytes after its header than the pixels take, or more */
+    BADGE_REFUSED_PAM_PIXELS = 11
 };
 
 /*
@@ -217,6 +222,62 @@ uint32_t badge_dither_to_mode(uint32_t shift, uint32_t kind, uint32_t width, uin
                               const uint8_t *pixels, size_t pixels_len, uint8_t *places, size_t places_len,
                               float *oklab, size_t oklab_len, uint8_t *out, size_t out_len, float *cells, size_t cells_len,
                               uint32_t *count, uint32_t *tile);
+
+/*
+ * The calls below read and write PAM files, in the layout of Netpbm's document "pam".
+ *
+ * What is read. A file begins with the line "P7", of just these two bytes. Then come these lines, each of them once, in any
+ * order but for ENDHDR, which is the last:
+ *
+ *     WIDTH n
+ *     HEIGHT n
+ *     MAXVAL 255
+ *     DEPTH 4                  or 3
+ *     TUPLTYPE RGB_ALPHA       or RGB, with DEPTH 3
+ *     ENDHDR
+ *
+ * Each ends with a newline (byte 10), the last one too. A number is decimal digits without a sign, however many; zeros may
+ * stand in front. White space is tab, vertical tab, form feed, carriage return and blank. At least one of them stands between
+ * the two words of a line, and any number before the first and after the last. Among these lines there may be any number of
+ * others that are white space alone, and of comments, whose very first byte is "#". Nothing else is taken. After the header
+ * come the pixels, row by row, four bytes each or three, and nothing after them.
+ *
+ * What is refused, in this order. PAM_HEADER: some line is not of this form, one is missing or there twice, or a side is 0,
+ * whatever the other is. SIZE: the picture is too large. PAM_PIXELS: what comes after the header is not width * height * DEPTH
+ * bytes long (a second picture in the file is left over). LENGTH: a buffer that is lent has another length than is needed.
+ * Nothing is written then, not behind width, height and length either.
+ *
+ * What is written. There is one form: the lines "P7", "WIDTH n", "HEIGHT n", "DEPTH 4", "MAXVAL 255", "TUPLTYPE RGB_ALPHA" and
+ * "ENDHDR", in this order, with one blank in a line and no zeros in front, and then the pixels as they are. Reading it gives
+ * the same size and pixels.
+ */
+
+/*
+ * The size of the picture in a PAM file, which tells how much to lend to badge_read_pam.
+ * Accepts: writes the width and the height. Refuses: PAM_HEADER, SIZE, PAM_PIXELS.
+ */
+uint32_t badge_pam_size(const uint8_t *file, size_t file_len, uint32_t *width, uint32_t *height);
+
+/*
+ * Reads a PAM file. Lengths: pixels 4 a pixel, of the size that badge_pam_size gives.
+ * Accepts: writes the pixels, each with alpha 255 where the file has RGB, and the width and the height.
+ * Refuses: PAM_HEADER, SIZE, PAM_PIXELS, LENGTH (pixels).
+ */
+uint32_t badge_read_pam(const uint8_t *file, size_t file_len, uint8_t *pixels, size_t pixels_len,
+                        uint32_t *width, uint32_t *height);
+
+/*
+ * How many bytes the PAM file of a picture has, which tells how much to lend to badge_write_pam.
+ * Accepts: writes the length. Refuses: PAM_HEADER (a side is 0, whatever the other is), SIZE.
+ */
+uint32_t badge_pam_length(uint32_t width, uint32_t height, uint64_t *length);
+
+/*
+ * Writes a picture as a PAM file. Lengths: pixels 4 a pixel; file as badge_pam_length says. Only file is written.
+ * Accepts: fills the file. Refuses: PAM_HEADER (a side is 0, whatever the other is), SIZE, LENGTH.
+ */
+uint32_t badge_write_pam(uint32_t width, uint32_t height, const uint8_t *pixels, size_t pixels_len,
+                         uint8_t *file, size_t file_len);
 
 #ifdef __cplusplus
 }

@@ -15,8 +15,8 @@ static_assert(BADGE_OFF == 0 && BADGE_BAYER_2X2 == 1 && BADGE_BAYER_4X4 == 2 && 
 static_assert(BADGE_ACCEPTED == 0 && BADGE_REFUSED_KIND_OR_SHIFT == 1 && BADGE_REFUSED_SIZE == 2 &&
                   BADGE_REFUSED_LENGTH == 3 && BADGE_REFUSED_ENTRIES == 4 && BADGE_REFUSED_TILES == 5 &&
                   BADGE_REFUSED_COMPONENT == 6 && BADGE_REFUSED_TOO_MANY_CANDIDATES == 7 && BADGE_REFUSED_TILE_OVER == 8 &&
-                  BADGE_REFUSED_NO_MATRIX == 9,
-              "the numbers of the scope document's table");
+                  BADGE_REFUSED_NO_MATRIX == 9 && BADGE_REFUSED_PAM_HEADER == 10 && BADGE_REFUSED_PAM_PIXELS == 11,
+              "the numbers of the scope document's table, and of the requests after it");
 
 typedef const uint8_t *bytes;
 typedef const float *floats;
@@ -41,6 +41,10 @@ int main(void)
     uint32_t (*to_mode)(uint32_t, uint32_t, uint32_t, uint32_t, uint32_t, uint32_t, uint32_t, uint32_t, uint32_t, uint32_t,
                         uint8_t, uint8_t, uint8_t, uint8_t, bytes, size_t, bytes, size_t, bytes, size_t, uint8_t *, size_t,
                         float *, size_t, uint8_t *, size_t, float *, size_t, uint32_t *, uint32_t *) = badge_dither_to_mode;
+    uint32_t (*pam_size)(bytes, size_t, uint32_t *, uint32_t *) = badge_pam_size;
+    uint32_t (*read_pam)(bytes, size_t, uint8_t *, size_t, uint32_t *, uint32_t *) = badge_read_pam;
+    uint32_t (*pam_length)(uint32_t, uint32_t, uint64_t *) = badge_pam_length;
+    uint32_t (*write_pam)(uint32_t, uint32_t, bytes, size_t, uint8_t *, size_t) = badge_write_pam;
     return !(to_oklab && sqdist && threshold && width && lerp && nearest && nearest_two && bracket && pick && candidates &&
-             quantize && to_mode);
+             quantize && to_mode && pam_size && read_pam && pam_length && write_pam);
 }

@@ -61,4 +61,16 @@ extern "C" {
         out: *mut u8, out_len: usize, cells: *mut f32, cells_len: usize,
         count: *mut u32, tile: *mut u32,
     ) -> u32;
+
+    pub fn badge_pam_size(file: Bytes, file_len: usize, width: *mut u32, height: *mut u32) -> u32;
+
+    pub fn badge_read_pam(
+        file: Bytes, file_len: usize, pixels: *mut u8, pixels_len: usize, width: *mut u32, height: *mut u32,
+    ) -> u32;
+
+    pub fn badge_pam_length(width: u32, height: u32, length: *mut u64) -> u32;
+
+    pub fn badge_write_pam(
+        width: u32, height: u32, pixels: Bytes, pixels_len: usize, file: *mut u8, file_len: usize,
+    ) -> u32;
 }

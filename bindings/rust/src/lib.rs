@@ -3,7 +3,8 @@
 //! Every call ends with an answer or a numbered [`Refusal`], for any input at
 //! all. Nothing is kept after a call and no memory is allocated: results go
 //! into slices that the caller lends, whose lengths have to be exactly those
-//! needed.
+//! needed. ([`pam::read`] and [`pam::write`] alone answer with a `Vec`; each has
+//! a form beside it that takes a slice.)
 //!
 //! A colour in a slice is four bytes: red, green, blue, alpha. A *reduced*
 //! colour has a console's own precision, a *normalised* one is the same colour
@@ -34,12 +35,15 @@
 //! assert_eq!(out[8..12], [255, 255, 255, 255]);
 //! # Ok::<(), badge_dither::Refusal>(())
 //! ```
+//!
+//! Pictures come from PAM files and go into them by [`pam`].
 
 #![warn(missing_docs)]
 
 mod c;
 pub mod kind;
 mod lookups;
+pub mod pam;
 mod pictures;
 mod refusal;
 mod values;

@@ -1,9 +1,11 @@
-//! Why a call refuses, with the numbers of the scope document's table and the
-//! C header's names: `KindOrShift` is its `BADGE_REFUSED_KIND_OR_SHIFT`.
+//! Why a call refuses, with the numbers of the scope document's table and of
+//! the requests after it, and the C header's names: `KindOrShift` is its
+//! `BADGE_REFUSED_KIND_OR_SHIFT`.
 
 use std::fmt;
 
-/// Why a call was refused. It is always the lowest number that applies.
+/// Why a call was refused. Where several apply it is the first in the order
+/// in which the call's own documentation has them.
 ///
 /// A refused call leaves every buffer as it was, but for
 /// [`TooManyCandidates`](Refusal::TooManyCandidates) and
@@ -39,13 +41,20 @@ pub enum Refusal {
     /// 9: a threshold or a pick was asked of a kind that has no matrix: off,
     /// Atkinson or Floyd-Steinberg.
     NoMatrix,
+    /// 10: a PAM file whose header is not one of those that are read, or a
+    /// picture without pixels, to be read or to be written. It comes directly
+    /// before 2.
+    PamHeader,
+    /// 11: a PAM file that has fewer bytes after its header than the pixels
+    /// take, or more. It comes directly after 2.
+    PamPixels,
     /// A number that the table does not have. The archive of this repository
     /// never gives one: another was linked.
     Unknown(u32),
 }
 
 impl Refusal {
-    /// The number in the scope document's table.
+    /// The number in the table, which the C interface returns.
     pub fn number(self) -> u32 {
         match self {
             Refusal::KindOrShift => 1,
@@ -57,6 +66,8 @@ impl Refusal {
             Refusal::TooManyCandidates => 7,
             Refusal::TileOver { .. } => 8,
             Refusal::NoMatrix => 9,
+            Refusal::PamHeader => 10,
+            Refusal::PamPixels => 11,
             Refusal::Unknown(number) => number,
         }
     }
@@ -73,6 +84,8 @@ impl Refusal {
             6 => Err(Refusal::Component),
             7 => Err(Refusal::TooManyCandidates),
             9 => Err(Refusal::NoMatrix),
+            10 => Err(Refusal::PamHeader),
+            11 => Err(Refusal::PamPixels),
             other => Err(Refusal::Unknown(other)),
         }
     }
@@ -90,6 +103,8 @@ impl fmt::Display for Refusal {
             Refusal::TooManyCandidates => "more candidates than places",
             Refusal::TileOver { tile, .. } => return write!(f, "8: tile {tile} is over its limit"),
             Refusal::NoMatrix => "the kind has no matrix",
+            Refusal::PamHeader => "no PAM header that is read, or no pixels",
+            Refusal::PamPixels => "the PAM file's pixels are cut short, or something is left over",
             Refusal::Unknown(_) => "a number that is not in the table",
         };
         write!(f, "{}: {why}", self.number())

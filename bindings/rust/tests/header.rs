@@ -59,6 +59,8 @@ fn refusals() {
         Refusal::TooManyCandidates,
         Refusal::TileOver { tile: 1, count: 2 },
         Refusal::NoMatrix,
+        Refusal::PamHeader,
+        Refusal::PamPixels,
     ];
     assert_eq!(here.map(|refusal| (constant_name(refusal), refusal.number())).as_slice(), constants("BADGE_REFUSED_"));
 }

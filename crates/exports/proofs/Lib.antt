@@ -3,3 +3,4 @@ pub mod Unique
 pub mod AnswerLaws
 pub mod LookupLaws
 pub mod PictureLaws
+pub mod FileLaws

@@ -9,6 +9,7 @@ use Rattle.quantize.specs.Quantize.{Commission}
 use Rattle.dither.specs.Mode as mode
 use Rattle.exports.specs.Answers.{PromisedToOklab, PromisedOklabSqdist, PromisedOrderedThreshold, PromisedBracketWidth, PromisedLerp}
 use Rattle.exports.specs.Lookups.{PromisedNearest, PromisedNearestTwo, PromisedOrderedBracket, PromisedPick}
+use Rattle.exports.specs.Files.{PromisedPamSize, PromisedReadPam, PromisedPamLength, PromisedWritePam}
 use Rattle.exports.specs.Pictures.{PromisedCandidateColorsIn, PromisedQuantizePixels, PromisedDitherToMode}
 
 pub badge-to-oklab-unique : (r g b : ℕ) → Unique (λ (x : Float × Float × Float). PromisedToOklab r g b x)
@@ -51,3 +52,15 @@ badge-quantize-pixels-unique q indices out cells = equal-only _
 pub badge-dither-to-mode-unique : (q : mode.Commission) (was : mode.Buffers) (count tile : ℕ)
     → Unique (λ (x : ℕ × mode.Buffers × ℕ × ℕ). PromisedDitherToMode q was count tile x)
 badge-dither-to-mode-unique q was count tile = equal-only _
+
+pub badge-pam-size-unique : (file : List ℕ) (width height : ℕ) → Unique (λ (x : ℕ × ℕ × ℕ). PromisedPamSize file width height x)
+badge-pam-size-unique file width height = equal-only _
+
+pub badge-read-pam-unique : (file pixels : List ℕ) (width height : ℕ) → Unique (λ (x : ℕ × List ℕ × ℕ × ℕ). PromisedReadPam file pixels width height x)
+badge-read-pam-unique file pixels width height = equal-only _
+
+pub badge-pam-length-unique : (width height was : ℕ) → Unique (λ (x : ℕ × ℕ). PromisedPamLength width height was x)
+badge-pam-length-unique width height was = equal-only _
+
+pub badge-write-pam-unique : (width height : ℕ) (pixels file : List ℕ) → Unique (λ (x : ℕ × List ℕ). PromisedWritePam width height pixels file x)
+badge-write-pam-unique width height pixels file = equal-only _

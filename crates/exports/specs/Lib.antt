@@ -2,3 +2,4 @@
 pub mod Answers
 pub mod Lookups
 pub mod Pictures
+pub mod Files

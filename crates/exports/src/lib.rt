@@ -1,6 +1,6 @@
 // The C interface: each function is one call down, and hands numbers over. include/badge_dither.h declares them. All but
-// `badge_to_oklab` and `badge_lerp` answer document 01's number; what is behind a pointer or in a lent buffer is written on
-// acceptance only, but for the candidates' places, which 7 clears, and for what 8 leaves.
+// `badge_to_oklab` and `badge_lerp` answer the number of document 01, or 02; what is behind a pointer or in a lent buffer is
+// written on acceptance only, but for the candidates' places, which 7 clears, and for what 8 leaves.
 use candidates::CandidateCount;
 use color::Distance;
 use color::NormalizedColor;
@@ -19,6 +19,9 @@ use lookup::Picked;
 use lookup::Second;
 use lookup::Two;
 use mixing::Width;
+use pam::Length;
+use pam::Size;
+use pam::Written;
 use patterns::Thresholded;
 use quantize::Quantization;
 ghost use mathlib.Core.Path.{_≡_};
@@ -27,6 +30,7 @@ ghost use Rattle.color.specs.Color.{reducedAt, bytesOf};
 ghost use Rattle.dither.specs.Mode as mode;
 ghost use Rattle.quantize.specs.Quantize.{commission};
 ghost use Rattle.exports.specs.Answers.{PromisedToOklab, PromisedOklabSqdist, PromisedOrderedThreshold, PromisedBracketWidth, PromisedLerp};
+ghost use Rattle.exports.specs.Files.{PromisedPamSize, PromisedReadPam, PromisedPamLength, PromisedWritePam};
 ghost use Rattle.exports.specs.Lookups.{PromisedNearest, secondPosition, PromisedNearestTwo, PromisedOrderedBracket, PromisedPick};
 ghost use Rattle.exports.specs.Pictures.{lentTo, PromisedCandidateColorsIn, PromisedQuantizePixels, zeroOf, settingsOf, PromisedDitherToMode};
 
@@ -427,5 +431,68 @@ pub extern "C" fn badge_dither_to_mode(
             8
         }
         Dithered::Refused(number) => number as u32,
+    }
+}
+
+// ---- PAM files; the numbers below are in the order of document 02, in which 10 comes before 2, and 11 before 3
+
+// The width and height of a file's picture; 10, 2 and 11.
+#[no_mangle]
+pub extern "C" fn badge_pam_size(file: &[u8], width: &mut u32, height: &mut u32) -> u32
+    ensures { λ n. ⌜ PromisedPamSize (now (file .entry)) (now (width .entry)) (now (height .entry)) (n, now (width .exit), now (height .exit)) ⌝ }
+{
+    match pam::pam_size(file) {
+        Size::Of(columns, rows) => {
+            *width = columns;
+            *height = rows;
+            0
+        }
+        Size::Refused(number) => number as u32,
+    }
+}
+
+// A file's pixels, and the width and height of its picture; 10, 2, 11 and 3.
+#[no_mangle]
+pub extern "C" fn badge_read_pam(
+    file: &[u8],
+    pixels: &mut [u8],
+    width: &mut u32,
+    height: &mut u32,
+) -> u32
+    ensures { λ n. ⌜ PromisedReadPam (now (file .entry)) (now (pixels .entry)) (now (width .entry)) (now (height .entry))
+        (n, now (pixels .exit), now (width .exit), now (height .exit)) ⌝ }
+{
+    match pam::read_pam(file, pixels) {
+        Size::Of(w, h) => {
+            *width = w;
+            *height = h;
+            0
+        }
+        Size::Refused(number) => number as u32,
+    }
+}
+
+// How many bytes a picture's file takes; 10 and 2.
+#[no_mangle]
+pub extern "C" fn badge_pam_length(width: u32, height: u32, length: &mut u64) -> u32
+    ensures { λ n. ⌜ PromisedPamLength width height (now (length .entry)) (n, now (length .exit)) ⌝ }
+{
+    match pam::pam_length(width, height) {
+        Length::Of(bytes) => {
+            *length = bytes;
+            0
+        }
+        Length::Refused(number) => number as u32,
+    }
+}
+
+// Writes a picture's file; 10, 2 and 3.
+#[no_mangle]
+pub extern "C" fn badge_write_pam(width: u32, height: u32, pixels: &[u8], file: &mut [u8]) -> u32
+    ensures { λ n. ⌜ PromisedWritePam width height (now (pixels .entry)) (now (file .entry)) (n, now (file .exit)) ⌝ }
+{
+    match pam::write_pam(width, height, pixels, file) {
+        Written::Accepted => 0,
+        Written::Refused(number) => number as u32,
     }
 }

@@ -1,13 +1,14 @@
 -- An answer by its number: it is what is answered with the number of the first reply that applies, whatever is that has the form, and the form leaves one
--- answer; its number is the lowest that applies where the replies rise. And where one case holds a result: a refusal with the number, the result with 0.
--- Assumes nothing.
+-- answer; its number is the lowest that applies where the replies rise, and the first that applies in any order. And where one case holds a result: a
+-- refusal with the number, the result with 0. Assumes nothing.
 use mathlib.Core.Path.{_≡_, refl, sym, ap, _∙_, subst}
 use mathlib.Core.List.{List}
 use Prim.Native.Nat.{ℕ, zero, suc}
 use lib.Dec.{T}
-use Rattle.replies.specs.Replies.{Reply, firstReply, risingFrom, Lowest}
+use Rattle.replies.specs.Replies.{Reply, firstReply, numbered, FirstReply, risingFrom, Lowest}
 use Rattle.replies.specs.Answers.{Answers, valueOr}
 use Rattle.replies.specs.Unique.{Unique}
+use Rattle.replies.proofs.ReplyLaws.{reply-is}
 use Rattle.replies.proofs.LowestLaws.{lowest-is}
 
 module _ {A : Type 0} (numberOf : A → ℕ) (replies : List Reply) (answerOf : ℕ → A) where
@@ -27,6 +28,10 @@ module _ {A : Type 0} (numberOf : A → ℕ) (replies : List Reply) (answerOf : 
   -- of rising replies the number is the lowest that applies
   pub answers-lowest : T (risingFrom 1 replies) → {r : A} → Answers numberOf replies answerOf r → Lowest replies (numberOf r)
   answers-lowest h a = subst (Lowest replies) (sym (a .number)) (lowest-is replies h)
+
+  -- in any other order it is that of the first that applies
+  pub answers-first : T (numbered replies) → {r : A} → Answers numberOf replies answerOf r → FirstReply replies (numberOf r)
+  answers-first h a = subst (FirstReply replies) (sym (a .number)) (reply-is replies h)
 
 -- ---- one case holds a result: with a number that is not 0 a refusal is answered
 pub value-other : {A : Type 0} (value : A) (refused : ℕ → A) (n : ℕ) → (n ≡ 0 → ⊥) → refused n ≡ valueOr value refused n
