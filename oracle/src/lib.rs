@@ -8,17 +8,14 @@ include!(concat!(env!("OUT_DIR"), "/hooked.rs"));
 
 pub mod account;
 pub mod archive;
-pub mod canvas;
 pub mod case;
 pub mod drive;
 pub mod examples;
-pub mod font;
 pub mod generate;
 pub mod hooks;
 pub mod mock;
 pub mod model;
 pub mod original;
-pub mod png;
 pub mod port;
 pub mod record;
 pub mod reference;

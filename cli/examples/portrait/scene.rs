@@ -1,5 +1,6 @@
-//! The portrait: a bust of a few rounded bodies under two lights, with smooth
-//! shades for dithering to work on. It is drawn from distances: a ray walks on
+//! The portrait: a bust of a few rounded bodies under two lights, in flat shades
+//! before a smooth ground, so that a tile has few colours and dithering something
+//! to work on. It is drawn from distances: a ray walks on
 //! by its distance from the nearest body until it meets one. Only sums,
 //! products, quotients and square roots are taken, so that it is the same
 //! picture everywhere.
@@ -146,22 +147,31 @@ fn open(p: Vector, toward: Vector, steps: &[f32]) -> f32 {
     1.0 - shut.fold(0.0, f32::max)
 }
 
+/// The light that comes from everywhere.
+const SKY: f32 = 0.4;
+
 fn shaded(p: Vector, stuff: Stuff) -> Vector {
     let out = normal(p);
     let p = plus(p, out, 0.01);
     let key = unit([-0.50, 0.52, 0.70]);
     let rim = unit([0.85, 0.25, -0.30]);
     let shade = open(p, key, &[0.08, 0.16, 0.30, 0.5, 0.8]);
-    let nook = open(p, out, &[0.06, 0.14, 0.25]);
     let key_light = dot(out, key).max(0.0) * (0.12 + 0.88 * shade) * 1.05;
     let rim_light = dot(out, rim).max(0.0) * 0.55;
-    let sky = (0.38 + 0.12 * out[1]) * (0.35 + 0.65 * nook);
-    let light = [0, 1, 2]
-        .map(|k| key_light * [1.05, 0.98, 0.86][k] + rim_light * [0.70, 0.75, 1.00][k] + sky * [0.72, 0.70, 0.86][k]);
     // Halfway between the light and the viewer, to the sixteenth power.
     let half = unit(plus(key, [0.0, 0.0, 1.0], 1.0));
     let gleam = (0..4).fold(dot(out, half).max(0.0), |g, _| g * g) * stuff.shine * shade;
+    let key_light = stepped(key_light, 2.0);
+    let rim_light = stepped(rim_light, 1.5);
+    let gleam = stepped(gleam, 2.0);
+    let light = [0, 1, 2]
+        .map(|k| key_light * [1.05, 0.98, 0.86][k] + rim_light * [0.70, 0.75, 1.00][k] + SKY * [0.72, 0.70, 0.86][k]);
     [0, 1, 2].map(|k| stuff.color[k] * light[k] + gleam)
+}
+
+/// Light in few steps, so many to one unit: a tile then has few colours.
+fn stepped(light: f32, steps: f32) -> f32 {
+    (light * steps + 0.5).floor() / steps
 }
 
 /// Dusk: from a warm light low on the left to blue above.
@@ -186,19 +196,14 @@ fn seen(x: f32, y: f32) -> Vector {
     ground(x, y)
 }
 
-/// Four bytes a pixel, opaque, each pixel the mean of sixteen places.
+/// Four bytes a pixel, opaque, each pixel what is seen at its middle.
 pub fn portrait(side: usize) -> Vec<u8> {
-    const FINE: usize = 4;
     const SPAN: f32 = 2.62;
-    let place = |k: usize, s: usize| ((k * FINE + s) as f32 + 0.5) / (side * FINE) as f32 * SPAN;
+    let place = |k: usize| (k as f32 + 0.5) / side as f32 * SPAN;
     let pixel = |i: usize| {
-        let places = (0..FINE * FINE).map(|s| {
-            let (x, y) = (place(i % side, s % FINE), place(i / side, s / FINE));
-            seen(x - SPAN / 2.0, 1.20 - y)
-        });
-        let sum = places.fold([0.0; 3], |sum, light| plus(sum, light.map(|v| v.min(1.0)), 1.0));
+        let light = seen(place(i % side) - SPAN / 2.0, 1.20 - place(i / side));
         // A square root stands for the screen's own curve.
-        let [r, g, b] = sum.map(|v| ((v / (FINE * FINE) as f32).sqrt() * 255.0 + 0.5) as u8);
+        let [r, g, b] = light.map(|v| (v.min(1.0).sqrt() * 255.0 + 0.5) as u8);
         [r, g, b, 255]
     };
     (0..side * side).flat_map(pixel).collect()

@@ -2,7 +2,7 @@
 //! dashed with hollow dots and the port in full. A grey line has the slope of
 //! what grows in proportion.
 
-use oracle::canvas::{Canvas, Color, Point, Side, WHITE};
+use sheet::canvas::{Canvas, Color, Point, Side, WHITE};
 
 use crate::growth::{Growth, KINDS};
 

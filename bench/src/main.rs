@@ -23,7 +23,7 @@ use std::process::ExitCode;
 
 use oracle::archive::Archive;
 
-// The original stands at this crate's root too.
+// The original stands at this crate's root, where its own paths expect it.
 include!(concat!(env!("OUT_DIR"), "/plain.rs"));
 
 /// What the command asks for.

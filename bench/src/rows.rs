@@ -26,6 +26,9 @@ enum Of {
     Picture,
 }
 
+/// A way to the cube root, with its name.
+type Root = (&'static str, fn(u64) -> u64);
+
 /// The least ratio in each column, with its row.
 type Least = [Option<(f64, String)>; 3];
 
@@ -136,7 +139,7 @@ impl Table<'_> {
             })
         };
         let mut float = || over(&|[r, g, b]| published::to_oklab_f32(r, g, b));
-        let roots: [(&str, fn(u64) -> u64); 3] = [
+        let roots: [Root; 3] = [
             ("by halving", exact::root_by_halving),
             ("bit by bit", exact::root_by_bits),
             ("by estimate", exact::root_by_estimate),

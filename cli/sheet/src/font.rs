@@ -14,14 +14,19 @@ const WIDTH: usize = 5;
 /// Columns of a blank.
 const BLANK: usize = 3;
 
-/// A sign's rows, each as wide as the sign is. A sign that we have not drawn is
-/// a mistake of the caller.
+/// Shown for a sign that we have not drawn: a box.
+const UNKNOWN: [&[u8]; HEIGHT] =
+    [b"#####", b"#...#", b"#...#", b"#...#", b"#...#", b"#...#", b"#####", b".....", b"....."];
+
+/// A sign's rows, each as wide as the sign is.
 pub fn glyph(sign: char) -> [&'static [u8]; HEIGHT] {
     if sign == ' ' {
         return [&b"....."[..BLANK]; HEIGHT];
     }
     let place = |band: &'static Band| Some((band, band.signs.chars().position(|s| s == sign)?));
-    let (band, at) = BANDS.iter().find_map(place).unwrap_or_else(|| panic!("the font has no {sign:?}"));
+    let Some((band, at)) = BANDS.iter().find_map(place) else {
+        return UNKNOWN;
+    };
     let from = at * (WIDTH + 1);
     let rows = band.rows.map(|row| &row.as_bytes()[from..from + WIDTH]);
     let inked = |column: &usize| rows.iter().any(|row| row[*column] == b'#');
@@ -106,17 +111,17 @@ const BANDS: [Band; 6] = [
         ],
     },
     Band {
-        signs: ".,:-/()=_²",
+        signs: ".,:-/()=_²+#'",
         rows: [
-            "..... ..... ..... ..... ....# ..#.. #.... ..... ..... ##...",
-            "..... ..... ..... ..... ....# .#... .#... ..... ..... ..#..",
-            "..... ..... #.... ..... ...#. #.... ..#.. ####. ..... .#...",
-            "..... ..... ..... ####. ..#.. #.... ..#.. ..... ..... ###..",
-            "..... ..... ..... ..... .#... #.... ..#.. ####. ..... .....",
-            "..... ..... ..... ..... #.... .#... .#... ..... ..... .....",
-            "#.... .#... #.... ..... #.... ..#.. #.... ..... ..... .....",
-            "..... .#... ..... ..... ..... ..... ..... ..... ##### .....",
-            "..... #.... ..... ..... ..... ..... ..... ..... ..... .....",
+            "..... ..... ..... ..... ....# ..#.. #.... ..... ..... ##... ..... .#.#. #....",
+            "..... ..... ..... ..... ....# .#... .#... ..... ..... ..#.. ..#.. .#.#. #....",
+            "..... ..... #.... ..... ...#. #.... ..#.. ####. ..... .#... ..#.. ##### .....",
+            "..... ..... ..... ####. ..#.. #.... ..#.. ..... ..... ###.. ##### .#.#. .....",
+            "..... ..... ..... ..... .#... #.... ..#.. ####. ..... ..... ..#.. ##### .....",
+            "..... ..... ..... ..... #.... .#... .#... ..... ..... ..... ..#.. .#.#. .....",
+            "#.... .#... #.... ..... #.... ..#.. #.... ..... ..... ..... ..... .#.#. .....",
+            "..... .#... ..... ..... ..... ..... ..... ..... ##### ..... ..... ..... .....",
+            "..... #.... ..... ..... ..... ..... ..... ..... ..... ..... ..... ..... .....",
         ],
     },
 ];
@@ -133,5 +138,15 @@ mod tests {
             band.signs.chars().for_each(|sign| assert!(!glyph(sign)[0].is_empty()));
         }
         assert_eq!(width("Il i"), 3 + 1 + 2 + 1 + 3 + 1 + 1);
+    }
+
+    #[test]
+    fn no_two_signs_look_alike() {
+        let drawn = ('0'..='9').chain('A'..='Z').chain('a'..='z').chain(" .,:-/()=_²+#'".chars());
+        let mut seen = vec![glyph('\n')];
+        for sign in drawn {
+            assert!(!seen.contains(&glyph(sign)), "{sign:?}");
+            seen.push(glyph(sign));
+        }
     }
 }

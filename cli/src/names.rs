@@ -1,0 +1,68 @@
+//! The original's modes and kinds, under its names.
+
+pub struct Mode {
+    pub name: &'static str,
+    pub shift: u32,
+}
+
+const fn mode(name: &'static str, shift: u32) -> Mode {
+    Mode { name, shift }
+}
+
+/// The modes that are drawn, in the order of the scope document.
+pub const MODES: [Mode; 12] = [
+    mode("snes", 3),
+    mode("snes-mode7", 3),
+    mode("gbc", 3),
+    mode("gba", 3),
+    mode("gba-affine", 3),
+    mode("gg", 4),
+    mode("ngpc", 4),
+    mode("wsc", 4),
+    mode("wsc-packed", 4),
+    mode("md", 5),
+    mode("pce", 5),
+    mode("pce-sprite", 5),
+];
+
+/// Modes of the original that are not ported.
+pub const LEFT_OUT: [&str; 4] = ["gb", "sms", "ngp", "ws"];
+
+/// A kind; its number is its place in the list.
+pub struct Kind {
+    pub name: &'static str,
+    /// The word for it on the original's own command line.
+    pub word: &'static str,
+    /// On a labelled sheet.
+    pub caption: &'static str,
+}
+
+const fn kind(name: &'static str, word: &'static str, caption: &'static str) -> Kind {
+    Kind { name, word, caption }
+}
+
+pub const KINDS: [Kind; 11] = [
+    kind("off", "off", "Off"),
+    kind("bayer-2x2", "bayer2", "Bayer 2x2"),
+    kind("bayer-4x4", "bayer4", "Bayer 4x4"),
+    kind("bayer-8x8", "bayer8", "Bayer 8x8"),
+    kind("checker", "checker", "Checker"),
+    kind("stipple-v", "stipple_v", "Stipple V"),
+    kind("stipple-h", "stipple_h", "Stipple H"),
+    kind("line-v", "line_v", "Line V"),
+    kind("line-h", "line_h", "Line H"),
+    kind("atkinson", "atkinson", "Atkinson"),
+    kind("floyd-steinberg", "fs", "Floyd-Steinberg"),
+];
+
+/// Whether a word is a name: case and the signs between its parts play no
+/// part, so that `GbaAffine`, `gba_affine` and `gba-affine` are one.
+pub fn same(word: &str, name: &str) -> bool {
+    let plain = |text: &str| text.replace(['-', '_', ' '], "").to_ascii_lowercase();
+    plain(word) == plain(name)
+}
+
+/// A kind's name, or the number itself where no kind has it.
+pub fn kind_name(number: u32) -> String {
+    KINDS.get(number as usize).map_or_else(|| number.to_string(), |kind| kind.name.into())
+}

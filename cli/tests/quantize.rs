@@ -1,0 +1,63 @@
+//! `quantize`: the palette's pass on files.
+
+mod common;
+
+use common::expected::{Console, modes};
+use common::{Folder, noise, painted, rgb, rgba};
+
+const BLACK: [u8; 4] = [0, 0, 0, 255];
+const WHITE: [u8; 4] = [255; 4];
+
+#[test]
+fn greys_by_hand() {
+    let greys = [0, 64, 128, 192, 255].map(|v| [v; 3]);
+    let folder = Folder::with(&[("in.pam", rgb(5, &greys)), ("two.pam", rgb(1, &[[0; 3], [255; 3]]))]);
+    let ran = folder.badge("quantize --palette two.pam --indices i in.pam out.pam");
+    assert_eq!(ran.said(), "out.pam: 5x1, snes, floyd-steinberg, 2 entries\n");
+    assert_eq!(folder.read("i"), [0, 0, 1, 1, 1]);
+    assert_eq!(folder.read("out.pam"), rgba(5, &[BLACK, BLACK, WHITE, WHITE, WHITE]));
+    // On standard output the indices stand alone.
+    assert_eq!(folder.badge("quantize --palette two.pam --indices - in.pam out.png").bytes(), [0, 0, 1, 1, 1]);
+    assert_eq!(folder.names(), "i in.pam out.pam out.png two.pam");
+}
+
+#[test]
+fn entries_are_reduced_and_go_row_by_row() {
+    let palette = rgb(2, &[[200, 0, 0], [0, 200, 0], [0, 0, 200], [7, 7, 7]]);
+    let input = rgba(4, &[[0, 0, 255, 255], [1, 1, 1, 255], [0, 255, 0, 255], [255, 0, 0, 127]]);
+    let folder = Folder::with(&[("four.pam", palette), ("in.pam", input)]);
+    // 200 is 25 in five bits and 206 again, 12 in four and 204, 6 in three and 219; 7 is 0 in all.
+    for (mode, v) in [("gbc", 206), ("ngpc", 204), ("pce-sprite", 219)] {
+        folder
+            .badge(&format!("quantize --mode {mode} --kind off --palette four.pam --indices i in.pam out.pam"))
+            .bytes();
+        assert_eq!(folder.read("i"), [2, 3, 1, 0], "{mode}");
+        assert_eq!(folder.read("out.pam"), rgba(4, &[[0, 0, v, 255], BLACK, [0, v, 0, 255], [0; 4]]), "{mode}");
+    }
+}
+
+#[test]
+fn every_mode_and_kind_is_the_librarys() {
+    let folder = Folder::with(&[("in.pam", noise(4, 20, 17, true)), ("palette.pam", noise(5, 3, 4, true))]);
+    let (image, palette) = (folder.image("in.pam"), folder.image("palette.pam"));
+    for ((mode, shift), rounding) in modes().zip(["nearest", "truncate"].into_iter().cycle()) {
+        let console = Console::new(shift, rounding);
+        for kind in 0..=10 {
+            let options = format!("--mode {mode} --kind {kind} --rounding {rounding} --indices i");
+            folder.badge(&format!("quantize {options} --palette palette.pam in.pam out.pam")).bytes();
+            let written = (folder.image("out.pam").pixels, folder.read("i"));
+            assert!(written == console.quantized(kind, &palette, &image), "{options}");
+        }
+    }
+}
+
+#[test]
+fn one_entry_and_256_are_palettes() {
+    let all = painted(16, 16, |x, y| [16 * x as u8, 16 * y as u8, 128, 255]);
+    let folder = Folder::with(&[("all.pam", all), ("one.pam", rgb(1, &[[255; 3]]))]);
+    for (name, count, counted) in [("one.pam", 1, "1 entry"), ("all.pam", 256, "256 entries")] {
+        let ran = folder.badge(&format!("quantize --kind off --palette {name} --indices i all.pam out.pam"));
+        assert_eq!(ran.said(), format!("out.pam: 16x16, snes, off, {counted}\n"));
+        assert_eq!(folder.read("i"), (0..256).map(|i| (i % count) as u8).collect::<Vec<u8>>());
+    }
+}
