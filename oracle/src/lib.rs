@@ -13,6 +13,7 @@ pub mod drive;
 pub mod examples;
 pub mod generate;
 pub mod hooks;
+pub mod jobs;
 pub mod mock;
 pub mod model;
 pub mod original;

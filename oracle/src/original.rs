@@ -6,7 +6,7 @@ use crate::dither::{self, Dither, TileBudget, probe};
 use crate::hooks::{Tables, take_cells, with_tables};
 use crate::image::Image;
 use crate::mode::Mode;
-use crate::mode::color::{ColorRounding, probe as tables};
+use crate::mode::color::{ColorRounding, ModeColor, probe as tables};
 use quantette::deps::palette::Oklab;
 
 pub type Rgba = [u8; 4];
@@ -76,6 +76,15 @@ fn bytes_of(colors: &[NormalizedColor]) -> Vec<u8> {
 /// The kinds' numbers in the original's declaration, as document 01 counts them.
 pub fn kind_numbers() -> [u32; 11] {
     probe::KINDS.map(probe::number)
+}
+
+/// The kinds' names there, in the same order.
+pub fn kind_names() -> [String; 11] {
+    probe::KINDS.map(|kind| format!("{kind:?}"))
+}
+
+pub fn reduce_color(how: How, color: Rgba) -> Rgba {
+    how.run(|| how.mode.reduce_color(NormalizedColor(rgba(&color)), how.rounding())).to_bytes()
 }
 
 pub fn to_oklab(color: [u8; 3]) -> Lab {
