@@ -41,13 +41,14 @@ fn run(words: &Words) -> Result<u8, Trouble> {
 }
 
 fn lines(console: &Console, tile: [u32; 2], limits: &[u32], image: &Image) -> Result<String, Refusal> {
-    let transparent = image.pixels.chunks_exact(4).filter(|pixel| is_transparent(pixel)).count();
+    let transparent = passes::transparent(console, image.picture())?;
     let reduced = passes::colors(console, image.picture())?;
     let counts = tile_counts(console, tile, image)?;
     let pixels = count(image.pixels.len() / 4, "pixel");
     let mut text = line("size", &format!("{}x{}, {pixels}", image.width, image.height));
-    text += &line("transparent", &count(transparent, "pixel"));
-    text += &line("colours", &format!("{}, and {reduced} in mode {}", full_colors(image), console.mode.name));
+    text += &line("transparent", &count(transparent.iter().filter(|clear| **clear).count(), "pixel"));
+    let full = full_colors(image, &transparent);
+    text += &line("colours", &format!("{full}, and {reduced} in mode {}", console.mode.name));
     text += &line(&format!("tiles of {}x{}", tile[0], tile[1]), &fullest(&counts, image.width, tile));
     for &limit in limits {
         text += &line(&format!("over {limit} colours"), &over(&counts, limit));
@@ -63,16 +64,11 @@ fn count(number: usize, what: &str) -> String {
     format!("{number} {what}{}", if number == 1 { "" } else { "s" })
 }
 
-/// As the library takes a pixel.
-fn is_transparent(pixel: &[u8]) -> bool {
-    pixel[3] < 128
-}
-
 /// How many different colours there are before reduction, transparent pixels
 /// left out.
-fn full_colors(image: &Image) -> usize {
-    let opaque = image.pixels.chunks_exact(4).filter(|pixel| !is_transparent(pixel));
-    opaque.map(|pixel| [pixel[0], pixel[1], pixel[2]]).collect::<HashSet<_>>().len()
+fn full_colors(image: &Image, transparent: &[bool]) -> usize {
+    let opaque = image.pixels.chunks_exact(4).zip(transparent).filter(|(_, clear)| !**clear);
+    opaque.map(|(pixel, _)| [pixel[0], pixel[1], pixel[2]]).collect::<HashSet<_>>().len()
 }
 
 /// The number of different reduced colours of each tile, row by row.

@@ -75,6 +75,13 @@ pub fn quantize(console: &Console, kind: u32, palette: &[u8], picture: Picture) 
     Ok((drawn_into(picture, out), indices))
 }
 
+/// Which pixels are transparent: those to which the palette's pass gives no
+/// entry, and so no alpha.
+pub fn transparent(console: &Console, picture: Picture) -> Result<Vec<bool>, Refusal> {
+    let (drawn, _) = quantize(console, kind::OFF, &[0, 0, 0, 255], picture)?;
+    Ok(drawn.pixels.chunks_exact(4).map(|pixel| pixel[3] == 0).collect())
+}
+
 /// How many different reduced colours a picture has, transparent pixels left
 /// out.
 pub fn colors(console: &Console, picture: Picture) -> Result<usize, Refusal> {
