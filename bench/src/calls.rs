@@ -22,7 +22,7 @@ pub const ATKINSON: Kind = (9, Dither::Atkinson, "Atkinson");
 pub const FLOYD_STEINBERG: Kind = (10, Dither::FloydSteinberg, "Floyd-Steinberg");
 
 /// Cells lent for a kind: three a pixel for diffusion, else none.
-fn cells(kind: u32, count: usize) -> Vec<f32> {
+pub fn cells(kind: u32, count: usize) -> Vec<f32> {
     vec![0.0; if kind >= 9 { 3 * count } else { 0 }]
 }
 

@@ -2,6 +2,7 @@
 //!
 //!   bench [--quick] [--only TEXT]...
 //!   bench growth [--quick] [--to PATH]
+//!   bench before ARCHIVE [--quick]
 //!
 //! The original here is the plain copy, with neither hooks nor probes. Only the
 //! lookups alone are asked of the other copy, since two of them are private; no
@@ -9,8 +10,10 @@
 //! it three times: with the published definition in f32 (`f32`), with document
 //! 01's conversion worked out for each colour (`exact`), and with that remembered
 //! (`remembered`). Calls that the port lacks are left out by name. `growth` shows
-//! how time grows with pixels and with candidates, and draws it.
+//! how time grows with pixels and with candidates, and draws it; `before` holds
+//! the port to an older archive of it.
 
+mod before;
 mod calls;
 mod growth;
 mod lookups;
@@ -30,6 +33,7 @@ include!(concat!(env!("OUT_DIR"), "/plain.rs"));
 #[derive(Default)]
 struct Options {
     growth: bool,
+    before: Option<String>,
     quick: bool,
     only: Vec<String>,
     to: Option<String>,
@@ -42,6 +46,7 @@ fn options() -> Result<Options, String> {
         let mut after = || words.next().ok_or(format!("{word} wants a word after it"));
         match word.as_str() {
             "growth" => options.growth = true,
+            "before" => options.before = Some(after()?),
             "--quick" => options.quick = true,
             "--only" => options.only.push(after()?),
             "--to" => options.to = Some(after()?),
@@ -60,6 +65,9 @@ fn grow(port: &Archive, quick: bool, path: &str) -> Result<(), String> {
 }
 
 fn run(options: Options) -> Result<(), String> {
+    if let Some(archive) = options.before {
+        return before::rows(archive.as_ref(), &before::linked(), options.quick);
+    }
     let port = Archive::default();
     if options.growth {
         return grow(&port, options.quick, &options.to.unwrap_or("../docs/growth.png".into()));

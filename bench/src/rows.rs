@@ -10,7 +10,7 @@ use quantette::{Conversion, exact, published, with_conversion};
 
 use crate::calls::{self, ATKINSON, BAYER, FLOYD_STEINBERG, Kind, OFF};
 use crate::lookups::{self, Asked};
-use crate::subject::{Subject, palette};
+use crate::subject::{Subject, entries_of, palette};
 use crate::timing::medians_of;
 
 const KINDS: [Kind; 4] = [OFF, BAYER, ATKINSON, FLOYD_STEINBERG];
@@ -92,7 +92,7 @@ impl Table<'_> {
 
     fn quantize_rows(&mut self, subject: &Subject, what: &str, entries: usize, kinds: &[Kind], runs: usize) {
         let (port, palette) = (self.port, palette(entries));
-        let entries = if entries == 1 { "1 entry".into() } else { format!("{entries} entries") };
+        let entries = entries_of(entries);
         for &kind in kinds {
             let name = format!("quantize_pixels {what}, {entries}, {}", kind.2);
             let call = || calls::quantize_pixels(port, subject, &palette, kind);

@@ -137,3 +137,8 @@ pub fn palette(entries: usize) -> Vec<u8> {
     let mut rng = Rng::new(3);
     (0..entries).flat_map(|_| [rng.byte() & 31, rng.byte() & 31, rng.byte() & 31, 255]).collect()
 }
+
+/// How a palette's length is told.
+pub fn entries_of(count: usize) -> String {
+    if count == 1 { "1 entry".into() } else { format!("{count} entries") }
+}

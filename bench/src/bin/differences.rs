@@ -1,5 +1,8 @@
 //! Counts the pixels that differ between document 01's conversion and the
-//! published Oklab definition in floating point, over a stated set of pictures.
+//! published Oklab definition in floating point, over a stated set of pictures;
+//! and the greys that have no tint, or fall to a colour that is no grey. The
+//! conversion has the root downward, as it was before document 02's second
+//! request, and the nearest, as it is now.
 //!
 //!   differences [--seed N] [--pictures N]
 //!
@@ -10,12 +13,16 @@
 //! no tile is over it (dither_to_mode).
 
 use oracle::hooks::Tables;
-use oracle::original::{self, How, Settings, own_tables};
+use oracle::original::{self, How, Records, Settings, own_tables};
 use oracle::rng::Rng;
 use oracle::words::number_after;
-use quantette::{Conversion, with_conversion};
+use quantette::{Conversion, Root, with_conversion, with_root};
 
 const SIDE: u32 = 64;
+
+/// Before the request and after it.
+const ROOTS: [Root; 2] = [Root::Down, Root::Nearest];
+const PUBLISHED: [Conversion; 2] = [Conversion::PublishedF64, Conversion::PublishedF32];
 
 fn noise(rng: &mut Rng) -> Vec<u8> {
     (0..SIDE * SIDE).flat_map(|_| [rng.byte(), rng.byte(), rng.byte(), 255]).collect()
@@ -37,24 +44,79 @@ fn differing(a: &[u8], b: &[u8]) -> u64 {
     a.chunks_exact(4).zip(b.chunks_exact(4)).filter(|(p, q)| p != q).count() as u64
 }
 
-/// Pixels drawn and pixels that differ under each published conversion.
+/// Pixels drawn; those that differ under each published conversion from what is
+/// drawn with each root; and those in which the two roots differ.
 #[derive(Default)]
 struct Count {
     pixels: u64,
-    differ: [u64; 2],
+    differ: [[u64; 2]; 2],
+    moved: u64,
 }
 
 impl Count {
     fn add(&mut self, draw: impl Fn() -> Vec<u8>) {
-        let ours = draw();
-        self.pixels += ours.len() as u64 / 4;
-        for (slot, conversion) in [Conversion::PublishedF64, Conversion::PublishedF32].into_iter().enumerate() {
-            self.differ[slot] += differing(&ours, &with_conversion(conversion, &draw));
+        let ours = ROOTS.map(|root| with_root(root, &draw));
+        let published = PUBLISHED.map(|conversion| with_conversion(conversion, &draw));
+        self.pixels += ours[0].len() as u64 / 4;
+        self.moved += differing(&ours[0], &ours[1]);
+        for (root, ours) in ours.iter().enumerate() {
+            for (slot, published) in published.iter().enumerate() {
+                self.differ[root][slot] += differing(ours, published);
+            }
+        }
+    }
+
+    fn add_all(&mut self, other: &Count) {
+        self.pixels += other.pixels;
+        self.moved += other.moved;
+        for (all, more) in self.differ.as_flattened_mut().iter_mut().zip(other.differ.as_flattened()) {
+            *all += more;
         }
     }
 
     fn print(&self, name: &str) {
-        println!("| {name} | {} | {} | {} |", self.pixels, self.differ[0], self.differ[1]);
+        let [[f64_down, f32_down], [f64_nearest, f32_nearest]] = self.differ;
+        let (pixels, moved) = (self.pixels, self.moved);
+        println!("| {name} | {pixels} | {f64_down} / {f32_down} | {f64_nearest} / {f32_nearest} | {moved} |");
+    }
+}
+
+/// How many of the 256 greys a test passes, under each conversion.
+fn greys(what: &str, passes: impl Fn(&Records, u8) -> bool, entries: &[u8]) {
+    let count = || {
+        let lab: Vec<f32> = entries.chunks_exact(4).flat_map(|c| original::to_oklab([c[0], c[1], c[2]])).collect();
+        let records = Records::new(entries, entries, &lab);
+        (0..=255).filter(|&k| passes(&records, k)).count()
+    };
+    let [down, nearest] = ROOTS.map(|root| with_root(root, count));
+    let [float64, float32] = PUBLISHED.map(|conversion| with_conversion(conversion, count));
+    println!("| {what} | {down} | {nearest} | {float64} | {float32} |");
+}
+
+/// All colours of a shift, in full precision.
+fn all_colors(shift: u32) -> Vec<u8> {
+    let levels = &own_tables(shift, false).scale[..256 >> shift];
+    let mut entries = Vec::new();
+    for r in levels {
+        for g in levels {
+            levels.iter().for_each(|b| entries.extend([*r, *g, *b, 255]));
+        }
+    }
+    entries
+}
+
+/// The greys that have no tint, a and b exactly 0; and those whose nearest of all
+/// colours of a shift is no grey.
+fn print_greys() {
+    println!("| of the 256 greys | root downward | nearest root | published, f64 | published, f32 |");
+    println!("|---|---|---|---|---|");
+    greys("have no tint", |_, k| original::to_oklab([k; 3])[1..] == [0.0, 0.0], &[]);
+    for shift in 3..=5 {
+        let is_tinted = |records: &Records, k| {
+            let [r, g, b, _] = records.nearest([k; 3]);
+            r != g || g != b
+        };
+        greys(&format!("fall to a colour of shift {shift} that is no grey"), is_tinted, &all_colors(shift));
     }
 }
 
@@ -101,16 +163,18 @@ fn main() {
         "Floyd-Steinberg",
     ];
     println!("seed {seed}, {} pictures of 64x64 for each kind and call\n", 6 * pictures);
-    println!("| call and kind | pixels | differ, published in f64 | differ, published in f32 |");
-    println!("|---|---|---|---|");
+    println!("differ under the published conversion, in f64 / f32:\n");
+    println!("| call and kind | pixels | root downward | nearest root | nearest from downward |");
+    println!("|---|---|---|---|---|");
     let mut total = Count::default();
     for (name, kind) in names.into_iter().zip(0..) {
         let counts = of_kind(kind, seed, pictures);
         for (count, call) in counts.iter().zip(["quantize_pixels", "dither_to_mode"]) {
             count.print(&format!("{call}, {name}"));
-            total.pixels += count.pixels;
-            (0..2).for_each(|k| total.differ[k] += count.differ[k]);
+            total.add_all(count);
         }
     }
     total.print("together");
+    println!();
+    print_greys();
 }

@@ -37,7 +37,7 @@ fn e3_shares() {
 #[test]
 fn e5_black_and_white() {
     assert_eq!(to_oklab(rgb(0, 0, 0)), Oklab { l: 0.0, a: 0.0, b: 0.0 });
-    let white = Oklab { l: 999999.0 / 1e6, a: 2.0 / 1e6, b: -1.0 / 1e6 };
+    let white = Oklab { l: 1.0, a: 0.0, b: 0.0 };
     assert_eq!(to_oklab(rgb(255, 255, 255)), white);
 }
 

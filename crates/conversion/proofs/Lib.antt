@@ -3,6 +3,7 @@ pub mod LinearLaws
 pub mod RootLaws
 pub mod NearestLaws
 pub mod OklabLaws
+pub mod TintLaws
 pub mod ListLaws
 pub mod Bits
 pub mod Unique

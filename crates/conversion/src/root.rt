@@ -1,8 +1,8 @@
-// The largest whole number whose cube does not exceed n. Floats give an estimate, of which a bound is promised and no more;
-// whole steps go from there to the root.
+// The whole number nearest to the cube root of n. Floats give an estimate, of which a bound is promised and no more; whole steps
+// go from there to the root.
 ghost use mathlib.Core.Path.{_≡_};
-ghost use Prim.Native.Nat.{_≤_, _<_};
-ghost use Rattle.conversion.specs.Root.{cube, rootOf};
+ghost use Prim.Native.Nat.{_-_, _*_, _≤_, _<_};
+ghost use Rattle.conversion.specs.Root.{cube, tooHigh, tooLow, rootOf};
 
 // n / 256 as a float: its digits are put under the leading one of 2^52, and 2^52 is taken away again.
 fn scaled(n: u64) -> f64
@@ -34,18 +34,18 @@ fn refined(x: f64, y: f64) -> f64 {
     x * y * y * (10.582673679787996 - 4.233069471915198 * c)
 }
 
-// z without its fraction, from the last digits of 2^52 - 1/2 + z.
+// The whole number nearest to z, from the last digits of 2^52 + z, which has no others.
 fn whole(z: f64) -> u64
     ensures { λ r. ⌜ r < 1048576 ⌝ }
 {
-    let w = z + 4503599627370495.5;
+    let w = z + 4503599627370496.0;
     if w >= 4503599627370496.0 {
         return f64::to_bits(w) % 1048576;
     }
     0
 }
 
-// A number near the root, mostly the root itself.
+// A number near the root, mostly the nearest.
 fn estimate(n: u64) -> u64
     requires { ⌜ n ≤ 1000000000000000000 ⌝ }
     ensures { λ r. ⌜ r < 1048576 ⌝ }
@@ -54,34 +54,57 @@ fn estimate(n: u64) -> u64
     whole(refined(x, inverse(x, guess(x))))
 }
 
-// From start down to a number whose cube does not exceed n.
+// Whether c is too high: c - 1/2 is above the root. Four times its cube is 4 c^3 - 6 c^2 + 3 c - 1/2, where all but the half is
+// whole: so the half decides nothing, and is left out.
+fn too_high(n: u64, c: u64) -> bool
+    requires { ⌜ (n ≤ 1000000000000000000) × (c ≤ 1048576) ⌝ }
+    ensures { λ t. ⌜ t ≡ tooHigh n c ⌝ }
+{
+    let q = c * c;
+    c * (4 * q + 3) > 4 * n + 6 * q
+}
+
+// Whether c is too low: c + 1/2 is below the root. Four times its cube is 4 c^3 + 6 c^2 + 3 c + 1/2.
+fn too_low(n: u64, c: u64) -> bool
+    requires { ⌜ (n ≤ 1000000000000000000) × (c ≤ 1048576) ⌝ }
+    ensures { λ t. ⌜ t ≡ tooLow n c ⌝ }
+{
+    let q = c * c;
+    c * (4 * q + 3) + 6 * q < 4 * n
+}
+
+// From start down to a number that is not too high.
 fn lowered(n: u64, start: u64) -> u64
-    requires { ⌜ start < 1048576 ⌝ }
-    ensures { λ r. ⌜ cube r ≤ n ⌝ }
+    requires { ⌜ (n ≤ 1000000000000000000) × (start < 1048576) ⌝ }
+    ensures { λ r. ⌜ cube (2 * r - 1) ≤ 8 * n ⌝ }
 {
     let mut c = start;
-    while c * c * c > n {
+    while too_high(n, c) {
         c -= 1;
     }
     c
 }
 
-// From start, whose cube does not exceed n, up to the last such.
+// From start, which is not too high, up to the root.
 fn raised(n: u64, start: u64) -> u64
-    requires { ⌜ (n ≤ 1000000000000000000) × (cube start ≤ n) ⌝ }
+    requires { ⌜ (n ≤ 1000000000000000000) × (cube (2 * start - 1) ≤ 8 * n) ⌝ }
     ensures { λ r. ⌜ r ≡ rootOf n ⌝ }
 {
     let mut c = start;
-    while (c + 1) * (c + 1) * (c + 1) <= n {
+    while too_low(n, c) {
         c += 1;
     }
     c
 }
 
-// The root of n. No public call: the caller sees to the bound.
+// The root of n: mostly the estimate, of which both tests are made at once. No public call: the caller sees to the bound.
 pub(crate) fn cube_root(n: u64) -> u64
     requires { ⌜ n ≤ 1000000000000000000 ⌝ }
     ensures { λ r. ⌜ r ≡ rootOf n ⌝ }
 {
-    raised(n, lowered(n, estimate(n)))
+    let c = estimate(n);
+    if too_high(n, c) | too_low(n, c) {
+        return raised(n, lowered(n, c));
+    }
+    c
 }

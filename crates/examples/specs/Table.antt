@@ -1,5 +1,5 @@
 -- The worked examples of document 01 that are marked P: what the definitions give, and what the document says, row by row. Definitions only.
--- Written from document 01, "Worked examples". proofs/Examples has the one proof.
+-- Written from document 01, "Worked examples", with E5 as document 02, Ask 2, amends it. proofs/Examples has the one proof.
 use Prim.Native.Nat.{ℕ}
 use mathlib.Core.Bool.{Bool, true, false}
 use mathlib.Core.List.{List, [], _∷_, map}
@@ -125,7 +125,7 @@ table =
     ∷ row 4 (natural (linearOf 0) ∷ natural (linearOf 1) ∷ natural (linearOf 10) ∷ natural (linearOf 255) ∷ [])
     (natural 0 ∷ natural 30353 ∷ natural 303527 ∷ natural 100000000 ∷ [])
     ∷ row 5 (millionthValues (millionthsAt (opaque 0 0 0))) (natural 0 ∷ natural 0 ∷ natural 0 ∷ [])
-    ∷ row 5 (millionthValues (millionthsAt (opaque 255 255 255))) (natural 999999 ∷ natural 2 ∷ whole (negsuc 0) ∷ [])
+    ∷ row 5 (millionthValues (millionthsAt (opaque 255 255 255))) (natural 1000000 ∷ natural 0 ∷ natural 0 ∷ [])
     ∷ row 6 (rounded 10 (pos 8)) (natural 11 ∷ whole (negsuc 7) ∷ [])
     ∷ row 6 (rounded 250 (pos 320)) (natural 255 ∷ natural 240 ∷ [])
     ∷ row 7 (account (way FloydSteinberg) (pair true)) (naturals (1280 ∷ 0 ∷ 0 ∷ 1280 ∷ 720 ∷ 560 ∷ 0 ∷ 0 ∷ 0 ∷ []))

@@ -81,9 +81,9 @@ fn e5() -> bool {
     oklab_is(conversion::to_oklab(opaque(0, 0, 0)), 0.0, 0.0, 0.0)
         & oklab_is(
             conversion::to_oklab(opaque(255, 255, 255)),
-            999999.0,
-            2.0,
-            -1.0,
+            1000000.0,
+            0.0,
+            0.0,
         )
 }
 

@@ -5,6 +5,8 @@
 //!
 //! `--mock` puts the cases to the right mock instead of the linked archive, and
 //! `--slip NAME` to the mock with that slip, which shows what a difference is like.
+//! `--root down` lets the conversion take document 01's root before its
+//! amendment, to hold an older archive to it.
 
 use std::process::ExitCode;
 
@@ -13,6 +15,7 @@ use oracle::case::Call;
 use oracle::drive::{self, Report};
 use oracle::mock::{Mock, Slip};
 use oracle::port::Port;
+use quantette::{Root, with_root};
 
 struct Options {
     what: String,
@@ -21,11 +24,20 @@ struct Options {
     cases: u64,
     calls: Vec<Call>,
     mock: Option<Mock>,
+    root: Root,
 }
 
 /// The options, or what is wrong with them.
 fn options() -> Result<Options, String> {
-    let mut options = Options { what: "random".into(), seeds: vec![], from: 0, cases: 2000, calls: vec![], mock: None };
+    let mut options = Options {
+        what: "random".into(),
+        seeds: vec![],
+        from: 0,
+        cases: 2000,
+        calls: vec![],
+        mock: None,
+        root: Root::Nearest,
+    };
     let mut words = std::env::args().skip(1);
     while let Some(word) = words.next() {
         let mut value = || words.next().ok_or(format!("{word} wants a value"));
@@ -43,6 +55,13 @@ fn options() -> Result<Options, String> {
                 let name = value()?;
                 let slip = Slip::ALL.into_iter().find(|slip| format!("{slip:?}") == name);
                 options.mock = Some(Mock::with(slip.ok_or(format!("there is no slip {name}"))?));
+            }
+            "--root" => {
+                options.root = match value()?.as_str() {
+                    "nearest" => Root::Nearest,
+                    "down" => Root::Down,
+                    other => return Err(format!("there is no root {other}")),
+                };
             }
             "random" | "colors" | "thresholds" | "widths" | "lerps" | "exhaustive" => options.what = word,
             _ => return Err(format!("{word} is not known")),
@@ -103,10 +122,10 @@ fn finish(report: &Report) -> ExitCode {
 
 fn main() -> ExitCode {
     match options() {
-        Ok(options) => match &options.mock {
+        Ok(options) => with_root(options.root, || match &options.mock {
             Some(mock) => run(mock, &options),
             None => run(&Archive::default(), &options),
-        },
+        }),
         Err(wrong) => {
             eprintln!("compare: {wrong}");
             ExitCode::from(2)

@@ -1,7 +1,7 @@
 //! How the mock chooses: conversion, distance, the nearest, the nearest two and
 //! the bracket.
 
-use quantette::exact::{as_floats, millionths_with, root_by_halving};
+use quantette::exact::{as_floats, millionths_with, root_by_halving, root_down};
 
 use super::slip::{Mock, Slip};
 use crate::model::{self, Entry};
@@ -27,6 +27,9 @@ impl Mock {
     pub(super) fn convert(&self, [r, g, b]: [u8; 3]) -> Lab {
         if self.has_slip(Slip::RootOffByOne) {
             return as_floats(millionths_with(|n| root_by_halving(n) + 1, r, g, b));
+        }
+        if self.has_slip(Slip::RootDownward) {
+            return as_floats(millionths_with(root_down, r, g, b));
         }
         quantette::remembered(r, g, b)
     }

@@ -22,6 +22,7 @@ pub enum Slip {
     // Others.
     Alpha127Opaque,
     RootOffByOne,
+    RootDownward,
     ChromaWeightTwo,
     RefusesExactlyTwo,
     AcceptsNan,
@@ -53,7 +54,7 @@ pub enum Slip {
 }
 
 impl Slip {
-    pub const ALL: [Slip; 44] = [
+    pub const ALL: [Slip; 45] = [
         Slip::LastOfEqualNearest,
         Slip::LastOfEqualShortlist,
         Slip::LastOfEqualResidual,
@@ -70,6 +71,7 @@ impl Slip {
         Slip::InventsTileNumber,
         Slip::Alpha127Opaque,
         Slip::RootOffByOne,
+        Slip::RootDownward,
         Slip::ChromaWeightTwo,
         Slip::RefusesExactlyTwo,
         Slip::AcceptsNan,

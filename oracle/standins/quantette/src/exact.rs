@@ -5,6 +5,8 @@
 use std::cmp::Ordering;
 use std::sync::OnceLock;
 
+use crate::Root;
+
 /// The scale of linear values.
 const SCALE: u32 = 100_000_000;
 
@@ -71,36 +73,48 @@ pub fn linear_table() -> &'static [u64; 256] {
     TABLE.get_or_init(|| std::array::from_fn(|k| linear(k as u32)))
 }
 
-/// The largest whole number whose cube does not exceed `n`, by halving. No cube
-/// tried exceeds 2_642_245^3, which is below 2^64; the next one is above.
-pub fn root_by_halving(n: u64) -> u64 {
-    last_that(2_642_246, |c| c * c * c <= n)
+/// Eight times the cube of the half below `c`, where there is one.
+fn half_below(c: u64) -> u64 {
+    (2 * c).saturating_sub(1).pow(3)
 }
 
-/// The same, bit by bit from the top. `n` is at most 10^18, so the root is at
-/// most 10^6 and no trial's cube exceeds 2^60.
+/// The whole number nearest to the cube root of `n`, by halving: the largest
+/// whose half below does not exceed the root. `n` is at most 10^18, so the root
+/// is at most 10^6; and no cube that is tried, here and below, exceeds 2^63.
+pub fn root_by_halving(n: u64) -> u64 {
+    last_that(1 << 20, |c| half_below(c) <= 8 * n)
+}
+
+/// The same, bit by bit from the top.
 pub fn root_by_bits(n: u64) -> u64 {
     let mut root = 0u64;
     for bit in (0..20).rev() {
         let trial = root | 1 << bit;
-        if trial * trial * trial <= n {
+        if half_below(trial) <= 8 * n {
             root = trial;
         }
     }
     root
 }
 
-/// The same, from an estimate. The two loops end where the root is exact,
-/// whatever the estimate was; `n` is at most 10^18, so no cube overflows.
+/// The same, from an estimate. The two loops end at the nearest, whatever the
+/// estimate was.
 pub fn root_by_estimate(n: u64) -> u64 {
-    let mut root = (n as f64).cbrt() as u64;
-    while root * root * root > n {
+    let mut root = (n as f64).cbrt().round() as u64;
+    while half_below(root) > 8 * n {
         root -= 1;
     }
-    while (root + 1) * (root + 1) * (root + 1) <= n {
+    while half_below(root + 1) <= 8 * n {
         root += 1;
     }
     root
+}
+
+/// The largest whole number whose cube does not exceed `n`, the root downward of
+/// document 01 before its amendment. No cube tried exceeds 2_642_245^3, which is
+/// below 2^64; the next one is above.
+pub fn root_down(n: u64) -> u64 {
+    last_that(2_642_246, |c| c * c * c <= n)
 }
 
 /// Divided by 10^10 to the nearest whole number, halves toward plus infinity.
@@ -126,9 +140,12 @@ pub fn millionths_with(root: impl Fn(u64) -> u64, r: u8, g: u8, b: u8) -> [i64; 
     ]
 }
 
-/// Lightness, a and b in millionths.
+/// Lightness, a and b in millionths, with the root that the switch says.
 pub fn millionths(r: u8, g: u8, b: u8) -> [i64; 3] {
-    millionths_with(root_by_estimate, r, g, b)
+    match crate::root() {
+        Root::Nearest => millionths_with(root_by_estimate, r, g, b),
+        Root::Down => millionths_with(root_down, r, g, b),
+    }
 }
 
 /// Millionths as f32: numbers below 2^24 and 10^6 are exact, so the division is
@@ -160,21 +177,34 @@ mod tests {
         }
     }
 
+    /// Whole numbers to be roots, the first and the last among them.
+    fn roots() -> impl Iterator<Item = u64> {
+        (1..1_000_000).step_by(37).chain([999_999])
+    }
+
     #[test]
-    fn all_roots_are_the_root() {
+    fn all_roots_are_the_nearest() {
         for root in [root_by_halving, root_by_bits, root_by_estimate] {
-            for c in (1..1_000_000).step_by(37).chain([999_999, 1_000_000]) {
-                for n in [c * c * c, (c * c * c + 1).min(1_000_000_000_000_000_000)] {
-                    assert_eq!(root(n), c);
-                }
-                assert_eq!(root(c * c * c - 1), c - 1);
+            assert_eq!([root(0), root(1_000_000_000_000_000_000)], [0, 1_000_000]);
+            for c in roots() {
+                // A half's cube is never whole: the one is below it, the other above.
+                let below = (2 * c + 1).pow(3) / 8;
+                assert_eq!([root(c * c * c), root(below), root(below + 1)], [c, c, c + 1]);
             }
         }
     }
 
     #[test]
+    fn the_root_downward() {
+        for c in roots() {
+            assert_eq!([c * c * c, (c + 1).pow(3) - 1, (c + 1).pow(3)].map(root_down), [c, c, c + 1]);
+        }
+    }
+
+    #[test]
     fn black_and_white_of_the_examples() {
-        assert_eq!(millionths(0, 0, 0), [0, 0, 0]);
-        assert_eq!(millionths(255, 255, 255), [999_999, 2, -1]);
+        let both = || [millionths(0, 0, 0), millionths(255, 255, 255)];
+        assert_eq!(both(), [[0, 0, 0], [1_000_000, 0, 0]]);
+        assert_eq!(crate::with_root(Root::Down, both), [[0, 0, 0], [999_999, 2, -1]]);
     }
 }

@@ -1,5 +1,6 @@
 //! Stand-in for `quantette`: the two types and the one function that the
-//! original imports, with a switch that says which conversion answers.
+//! original imports, with a switch that says which conversion answers, and one
+//! that says which cube root document 01's conversion takes.
 
 pub mod exact;
 pub mod published;
@@ -19,7 +20,17 @@ pub enum Conversion {
     PublishedF32,
 }
 
+/// Which whole number stands for a cube root in document 01's conversion.
+#[derive(Debug, Clone, Copy, PartialEq, Eq)]
+pub enum Root {
+    /// The nearest, as document 02, Ask 2, amends it: what the port takes.
+    Nearest,
+    /// The largest whose cube does not exceed the number, as it was before.
+    Down,
+}
+
 thread_local! {
+    static ROOT: Cell<Root> = const { Cell::new(Root::Nearest) };
     static ANSWERING: Cell<Conversion> = const { Cell::new(Conversion::Exact) };
     static REMEMBERED: RefCell<Vec<(u32, [f32; 3])>> = const { RefCell::new(Vec::new()) };
 }
@@ -32,17 +43,31 @@ pub fn with_conversion<T>(conversion: Conversion, run: impl FnOnce() -> T) -> T 
     result
 }
 
+/// Lets document 01's conversion take `root` on this thread while `run` runs:
+/// the one switch for that, in everything that is built on this stand-in.
+pub fn with_root<T>(root: Root, run: impl FnOnce() -> T) -> T {
+    let before = ROOT.replace(root);
+    let result = run();
+    ROOT.set(before);
+    result
+}
+
+/// The root that is taken now.
+pub fn root() -> Root {
+    ROOT.get()
+}
+
 /// A power of two; a colour's answer is kept in one slot only, so that memory
 /// stays bounded and a look takes one comparison.
 const SLOTS: usize = 1 << 16;
 
 /// Document 01's conversion, with answers remembered for each thread.
 pub fn remembered(r: u8, g: u8, b: u8) -> [f32; 3] {
-    let key = u32::from_be_bytes([1, r, g, b]);
+    let key = u32::from_be_bytes([1 + root() as u8, r, g, b]);
     let slot = (key.wrapping_mul(0x9e37_79b1) >> 16) as usize & (SLOTS - 1);
     REMEMBERED.with_borrow_mut(|slots| {
         if slots.is_empty() {
-            // No colour has key 0, since the first byte of a key is 1.
+            // No colour has key 0, since the first byte of a key is 1 or 2.
             slots.resize(SLOTS, (0, [0.0; 3]));
         }
         if slots[slot].0 != key {
