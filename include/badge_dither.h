@@ -74,7 +74,8 @@ enum badge_refusal {
 };
 
 /*
- * The Oklab colour of a colour (r, g, b), each component rounded to a whole number of millionths and then to a float.
+ * The Oklab colour of a colour (r, g, b), each component rounded to a whole number of millionths and then to a float. Of a
+ * grey, where r, g and b are the same, a and b are 0; white is 1, 0, 0.
  * Writes lightness, a and b. It never refuses.
  */
 void badge_to_oklab(uint8_t r, uint8_t g, uint8_t b, float *lightness, float *out_a, float *out_b);
