@@ -1,5 +1,5 @@
 -- Greys, and colours without tint. Definitions only.
--- Written from document 02, Ask 2, "White has a tint": white was one grey with a tint, and no grey has one now (proofs/TintLaws, `grey-untinted`).
+-- Written from document 02, Ask 2, "White has a tint": white was the one grey with a tint, and no grey has one now (proofs/TintLaws, `grey-untinted`).
 use mathlib.Core.Path.{_≡_}
 use Prim.Native.Nat.{_<_}
 use Rattle.floats.specs.Bytes.{zeroF}
