@@ -2,32 +2,32 @@
 use super::Bracket;
 use super::BracketAt;
 use color::NormalizedColor;
+use color::Oklab;
 use color::ReducedColor;
 use color::oklab_at;
 use color::rgba_at;
 use mixing::lerp;
 ghost use mathlib.Core.Path.{_≡_};
-ghost use Prim.Native.Nat.{_+_, _*_, _<_};
+ghost use Prim.Native.Nat.{ℕ, _+_, _*_, _<_};
 ghost use lib.ListN.{length};
+ghost use Rattle.color.specs.declared.Oklab.{Oklab as Lab};
 ghost use Rattle.color.specs.Color.{reducedAt};
 ghost use Rattle.color.specs.Oklab.{oklabAt};
 ghost use Rattle.lookup.specs.Bracket.{bracketWith, colored};
 
-// The bracket of entries a and b, whose normalised colours are c1 and c2. No public call: the caller sees to the positions.
-pub fn bracket_with(
-    oklab: &[f32],
+// The bracket of entries a and b, whose Oklab colours are p and q and whose normalised colours are c1 and c2.
+pub fn bracket_between(
     a: usize,
     b: usize,
+    p: Oklab,
+    q: Oklab,
     c1: NormalizedColor,
     c2: NormalizedColor,
     color: NormalizedColor,
 ) -> BracketAt
-    requires { ⌜ (3 * a + 2 < length (now oklab)) × (3 * b + 2 < length (now oklab)) ⌝ }
-    ensures { λ r. ⌜ r ≡ bracketWith (oklabAt (now (oklab .entry))) a b c1 c2 color ⌝ }
+    ensures { λ r. ⌜ ((oklab : ℕ → Lab) → p ≡ oklab a → q ≡ oklab b → r ≡ bracketWith oklab a b c1 c2 color) ⌝ }
 {
     let t = lerp(c1, c2, color, true);
-    let p = oklab_at(oklab, a);
-    let q = oklab_at(oklab, b);
     if q.l >= p.l {
         return BracketAt {
             dark: a,
@@ -40,6 +40,21 @@ pub fn bracket_with(
         light: a,
         ratio: 1.0 - t,
     }
+}
+
+// The same of entries of a flat list. No public call: the caller sees to the positions.
+pub fn bracket_with(
+    oklab: &[f32],
+    a: usize,
+    b: usize,
+    c1: NormalizedColor,
+    c2: NormalizedColor,
+    color: NormalizedColor,
+) -> BracketAt
+    requires { ⌜ (3 * a + 2 < length (now oklab)) × (3 * b + 2 < length (now oklab)) ⌝ }
+    ensures { λ r. ⌜ r ≡ bracketWith (oklabAt (now (oklab .entry))) a b c1 c2 color ⌝ }
+{
+    bracket_between(a, b, oklab_at(oklab, a), oklab_at(oklab, b), c1, c2, color)
 }
 
 // The bracket's reduced colours. No public call: the caller sees to the positions.

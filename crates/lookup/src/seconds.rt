@@ -1,5 +1,5 @@
 // The second colour, of the shortlist's entries the one that mixes best with the nearest: an entry's turn, and the choice
-// when all have had theirs. The loop over the shortlist is where the entries are read: `flat`, and crate `remembered`.
+// when all have had theirs. The loop over the shortlist is where the entries are read: `flat`, and crates `remembered` and `records`.
 use super::Best;
 use super::Second;
 use color::NormalizedColor;
@@ -35,7 +35,7 @@ pub fn improve(best: Best, k: usize, mixes: bool, error: f32) -> Best
 }
 
 // Entry k's turn: it counts where the unclamped `lerp` is from 0 to 1.
-pub(crate) fn weigh(
+pub fn weigh(
     best: Best,
     k: usize,
     a: NormalizedColor,

@@ -1,311 +1,190 @@
--- The answers over records: the number of a list is the lowest that applies; what is answered with it has the promise; what `chosen` answers after its
--- pass; the short list is accepted and gives the answers of the whole list; what `joined`, `two_of` and `bracket_of` make of it. Assumes nothing.
-use mathlib.Core.Path.{_≡_, refl, sym, ap, _∙_, subst, transport}
-use mathlib.Core.List.{List, _∷_, map}
-use mathlib.Core.Bool.{Bool}
-use Prim.Native.Nat.{ℕ, zero, suc, _+_, _*_, _/_, _≤_, _<_}
-use native.Mathlib.Numerals.{add-one}
-use native.Mathlib.Omega.{arith}
-use borrow.Author.Tests.{lt-ltb, le-ltb}
-use lib.Dec.{T}
-use lib.ListN.{length, getD, take, length-take, List·getD-eq-default, List·getD-map, length-map}
-use lib.Seq.{length-take-le}
-use lib.Ieee.{Float}
-use Rattle.lists.proofs.Bools.{is-true}
+-- The answers over records: the number of a list is the lowest that applies; what is answered with it has the promise; what is found is the nearest
+-- record and the second; and what `chosen`, `two_of`, `positions_of` and `bracket_of` make of it. Assumes nothing.
+use mathlib.Core.Path.{_≡_, refl, sym, ap, _∙_, subst}
+use mathlib.Core.Logic.{_⊎_, inl, inr}
+use mathlib.Core.List.{List}
+use mathlib.Core.Bool.{Bool, true, false, cond, true≢false}
+use Prim.Native.Nat.{ℕ}
+use lib.Ieee.{Float, le}
 use Rattle.replies.specs.Replies.{Lowest, firstReply}
 use Rattle.replies.proofs.LowestLaws.{lowest-is}
-use Rattle.replies.proofs.AnswerLaws.{value-promised, value-refused}
+use Rattle.replies.proofs.AnswerLaws.{value-refused, value-granted}
 use Rattle.color.specs.declared.CandidateColor.{CandidateColor}
 use Rattle.color.specs.declared.NormalizedColor.{NormalizedColor}
+use Rattle.color.specs.declared.ReducedColor.{ReducedColor}
 use Rattle.color.specs.declared.Oklab.{Oklab}
-use Rattle.color.specs.Oklab.{allInRange}
 use Rattle.conversion.specs.Oklab.{toOklab}
-use Rattle.mixing.specs.Widths.{clampWidth}
-use Rattle.shortlist.specs.Candidates.{Candidates, flat}
-use Rattle.shortlist.specs.Nearest.{distances, nearestOf}
-use Rattle.shortlist.specs.Shortlist.{ranked, shortlistOf}
-use Rattle.shortlist.proofs.NearestLaws.{nearest-inside}
+use Rattle.shortlist.specs.Candidates.{Candidates}
+use Rattle.shortlist.specs.Nearest.{nearestOf}
 use Rattle.lookup.specs.declared.Two.{Two}
-use Rattle.lookup.specs.declared.FoundTwo.{FoundTwo}
-use Rattle.lookup.specs.declared.FoundTwo.the-variants as two
-use Rattle.lookup.specs.declared.FoundBracket.{FoundBracket}
 use Rattle.lookup.specs.declared.Second.{Second}
 use Rattle.lookup.specs.declared.Second.the-variants.{At, Nothing}
+use Rattle.lookup.specs.declared.Bracket.{Bracket}
+use Rattle.lookup.specs.declared.BracketAt.{BracketAt}
 use Rattle.lookup.specs.declared.FoundBracket.the-variants as bracket
-use Rattle.lookup.specs.Lists.{countFits}
-use Rattle.lookup.specs.Second.{nearestTwoOf}
-use Rattle.lookup.specs.Bracket.{bracketOf}
-use Rattle.lookup.specs.Answers.{numberOfBracket, FlatTwo, FlatBracket}
-use Rattle.lookup.proofs.AnswerLaws.{two-given}
-use Rattle.lookup.proofs.ListLaws as Flat
-use Rattle.lookup.proofs.TwoLaws.{first-entry, second-entry}
-use Rattle.records.specs.declared.passes.Entry.{Entry}
-use Rattle.records.specs.declared.passes.Pass.{Pass}
-use Rattle.records.specs.declared.shorts.Short.{Short}
-use Rattle.records.specs.declared.FoundRecord.{FoundRecord}
+use Rattle.lookup.specs.Second.{secondTo, nearestTwoOf}
+use Rattle.lookup.specs.Bracket.{bracketWith, solidAt, bracketTwo, bracketAtOf, colored, bracketOf}
+use Rattle.lookup.specs.Answers.{numberOfBracket}
+use Rattle.lookup.proofs.BracketLaws.{solid-is, pair-is}
+use Rattle.records.specs.declared.search.Asked.{Asked}
+use Rattle.records.specs.declared.search.Both.{Both}
 use Rattle.records.specs.declared.FoundRecord.the-variants as one
 use Rattle.records.specs.declared.FoundRecords.{FoundRecords}
 use Rattle.records.specs.declared.FoundRecords.the-variants as both
-use Rattle.records.specs.Lists.{noRecord, recordAt, candidatesOf, rangedTo, recordReplies, numberBy, recordsNumber}
-use Rattle.records.specs.Answers.{numberOfRecord, numberOfRecords, nearestRecordAnswer, recordsAt, nearestTwoRecordsAnswer, recordsBracketAnswer}
-use Rattle.records.specs.Answers.{NearestRecord, NearestTwoRecords, RecordsBracket, foundTwoIn}
-use Rattle.records.specs.Keeping.{farOf, entryOf, Passed, shortPositions, shortRecords, inLine, LaidIn, Roomy, recordIn, Shortened}
-use Rattle.records.proofs.ListLaws.{Accepted, accepted, all-ranged}
-use Rattle.shortlist.proofs.MapLaws.{map-take, map-map}
-use Rattle.records.proofs.KeepingLaws.{noEntry, nearest-kept}
-use Rattle.records.proofs.FlatLaws.{laid-record}
-use Rattle.records.proofs.AgreeLaws.{two-flat, bracket-flat}
-use Rattle.records.proofs.ShortLaws.{renamed, standing, shortened, standing-inside, first-short, second-short, bracket-short}
+use Rattle.records.specs.Lists.{recordAt, candidatesOf, recordReplies, numberBy, recordsNumber}
+use Rattle.records.specs.Answers.{numberOfRecord, numberOfRecords, recordsAt, NearestRecord, NearestTwoRecords, RecordsBracket}
+use Rattle.records.specs.Reading.{Asks, Found, Has, secondAsked}
 
 -- ---- the number of a list is the lowest that applies
 pub number-lowest : (list : List CandidateColor) → Lowest (recordReplies list) (firstReply (recordReplies list))
 number-lowest list = lowest-is (recordReplies list) tt
 
--- and it is what `refusal` says after a pass
-pub number-is : (list : List CandidateColor) (len : ℕ) (ranged : Bool) (r : ℕ) → len ≡ length list → ranged ≡ rangedTo list (length list)
-    → r ≡ numberBy len ranged → r ≡ recordsNumber list
-number-is list len ranged r e f g = g ∙ (λ i. numberBy (e i) (f i))
-
--- a list of so many records in range
-number-none : (list : List CandidateColor) → 0 < length list → length list ≤ 65536 → T (rangedTo list (length list)) → recordsNumber list ≡ 0
-unfolding numberBy countFits
-number-none list h l r = rw (lt-ltb 0 (length list) h, le-ltb 65536 (length list) l, is-true (rangedTo list (length list)) r)
-
--- ---- what is answered with the number of a list has the promise: it has that number itself
-two-zeroth : (list : List CandidateColor) (a : ℕ) (s : Second) → numberOfRecords (recordsAt list a s) ≡ 0
-two-zeroth list a Nothing = refl
-two-zeroth list a (At b) = refl
+-- ---- what is answered with the number of a list has the promise
+records-zeroth : (list : List CandidateColor) (a : ℕ) (s : Second) → numberOfRecords (recordsAt list a s) ≡ 0
+records-zeroth list a Nothing = refl
+records-zeroth list a (At b) = refl
 
 module _ (list : List CandidateColor) (color : NormalizedColor) where
-  pub nearest-promised : {r : FoundRecord} → r ≡ nearestRecordAnswer list color (recordsNumber list) → NearestRecord list color r
-  unfolding numberBy
-  nearest-promised e = value-promised numberOfRecord _ _ one.Refused refl (λ n. refl) e
-
-  module _ (width : ℕ) where
-    pub two-promised : {r : FoundRecords} → r ≡ nearestTwoRecordsAnswer list color width (recordsNumber list) → NearestTwoRecords list color width r
+  -- a refusal with the number, where it is not 0
+  module _ {n : ℕ} (e : n ≡ recordsNumber list) (h : n ≡ 0 → ⊥) where
+    pub nearest-refused : NearestRecord list color (one.Refused n)
     unfolding numberBy
-    two-promised e =
+    nearest-refused = value-refused numberOfRecord _ _ one.Refused refl (λ m. refl) e h
+
+    pub two-refused : (width : ℕ) → NearestTwoRecords list color width (both.Refused n)
+    unfolding numberBy
+    two-refused width =
         let t = nearestTwoOf (candidatesOf list) width (toOklab color) color in
-        value-promised numberOfRecords _ _ both.Refused (two-zeroth list (t .first) (t .second)) (λ n. refl) e
+        value-refused numberOfRecords _ _ both.Refused (records-zeroth list (t .first) (t .second)) (λ m. refl) e h
 
-    pub bracket-promised : {r : FoundBracket} → r ≡ recordsBracketAnswer list color width (recordsNumber list) → RecordsBracket list color width r
+    pub bracket-refused : (width : ℕ) → RecordsBracket list color width (bracket.Refused n)
     unfolding numberBy
-    bracket-promised e = value-promised numberOfBracket _ _ bracket.Refused refl (λ n. refl) e
+    bracket-refused width = value-refused numberOfBracket _ _ bracket.Refused refl (λ m. refl) e h
 
--- ---- a refusal: the number of the list, which is not 0
-module _ (list : List CandidateColor) (color : NormalizedColor) {r : ℕ} (e : r ≡ recordsNumber list) (h : r ≡ 0 → ⊥) where
-  pub nearest-refused : NearestRecord list color (one.Refused r)
-  unfolding numberBy
-  nearest-refused = value-refused numberOfRecord _ _ one.Refused refl (λ n. refl) e h
+  -- with 0 the result
+  module _ (z : recordsNumber list ≡ 0) where
+    nearest-granted : {c : CandidateColor} → c ≡ recordAt list (nearestOf (candidatesOf list) (toOklab color)) → NearestRecord list color (one.Chosen c)
+    unfolding numberBy
+    nearest-granted q = value-granted numberOfRecord _ _ one.Refused refl (λ m. refl) z (ap one.Chosen q)
 
-  pub two-refused : (width : ℕ) → NearestTwoRecords list color width (both.Refused r)
-  unfolding numberBy
-  two-refused width =
-      let t = nearestTwoOf (candidatesOf list) width (toOklab color) color in
-      value-refused numberOfRecords _ _ both.Refused (two-zeroth list (t .first) (t .second)) (λ n. refl) e h
+    module _ (width : ℕ) where
+      two-granted : {r : FoundRecords} → let t = nearestTwoOf (candidatesOf list) width (toOklab color) color in
+          r ≡ recordsAt list (t .first) (t .second) → NearestTwoRecords list color width r
+      unfolding numberBy
+      two-granted q =
+          let t = nearestTwoOf (candidatesOf list) width (toOklab color) color in
+          value-granted numberOfRecords _ _ both.Refused (records-zeroth list (t .first) (t .second)) (λ m. refl) z q
 
-  pub bracket-refused : (width : ℕ) → RecordsBracket list color width (bracket.Refused r)
-  unfolding numberBy
-  bracket-refused width = value-refused numberOfBracket _ _ bracket.Refused refl (λ n. refl) e h
+      bracket-granted : {b : Bracket} → b ≡ bracketOf (candidatesOf list) width (toOklab color) color → RecordsBracket list color width (bracket.Of b)
+      unfolding numberBy
+      bracket-granted q = value-granted numberOfBracket _ _ bracket.Refused refl (λ m. refl) z (ap bracket.Of q)
 
--- ---- what `chosen` answers
-module _ (list : List CandidateColor) (color : NormalizedColor) (len : ℕ) (near : Pass) (e : len ≡ length list)
-    (P : Passed list (toOklab color) (length list) 1 (length list) near)
-    (r : ℕ) (g : r ≡ numberBy len (near .ranged)) where
-  number : r ≡ recordsNumber list
-  number = number-is list len (near .ranged) r e (P .ranged) g
-
-  pub nearest-unmet : (r ≡ 0 → ⊥) → NearestRecord list color (one.Refused r)
-  nearest-unmet h = nearest-refused list color number h
-
-  pub nearest-granted : T (allInRange (toOklab color)) → r ≡ 0 → NearestRecord list color (one.Chosen (getD (near .kept) 0 noEntry .color))
-  nearest-granted O z =
-      let A = accepted list (sym number ∙ z) in
-      nearest-promised list color (
-      ap (λ (x : Entry). one.Chosen (x .color)) (nearest-kept list (toOklab color) near P O (A .positive) (A .ranged))
-      ∙ ap (nearestRecordAnswer list color) (sym z ∙ number))
-
--- ---- the short list
-module _ (list : List CandidateColor) (color : NormalizedColor) (width : ℕ) (A : Accepted list) (O : T (allInRange (toOklab color))) where
+-- ---- what is found in an accepted list
+module _ {list : List CandidateColor} {a : Asked} {b : Both} (F : Found list a b) (z : recordsNumber list ≡ 0) where
   abbrev cs : Candidates
   cs = candidatesOf list
 
-  abbrev o : Oklab
-  o = toOklab color
+  first-found : b .first ≡ recordAt list (nearestOf cs (a .target))
+  first-found = F .nearest z .copy ∙ ap (recordAt list) (F .nearest z .position)
 
-  abbrev ps : List ℕ
-  ps = shortPositions cs width o
+  -- what `chosen` answers
+  pub nearest-answered : Asks list a → NearestRecord list (a .color) (one.Chosen (b .first))
+  nearest-answered A = nearest-granted list (a .color) z (first-found ∙ ap (λ (o : Oklab). recordAt list (nearestOf cs o)) (A .target))
 
-  abbrev short : List CandidateColor
-  short = shortRecords list width color
+  module _ (two : a .two ≡ true) where
+    -- the second, by whether there is one
+    none-found : b .two ≡ false → secondAsked list a ≡ Nothing
+    none-found e = go (secondAsked list a) (F .second z two)
+      where
+        go : (x : Second) → Has list x b → x ≡ Nothing
+        go Nothing h = refl
+        go (At k) h = absurd (true≢false (sym (h .0) ∙ e))
 
-  abbrev g : ℕ → ℕ
-  g = standing cs width o
+    second-found : b .two ≡ true → (secondAsked list a ≡ At (b .place)) × (b .second ≡ recordAt list (b .place))
+    second-found e = go (secondAsked list a) (F .second z two)
+      where
+        go : (x : Second) → Has list x b → (x ≡ At (b .place)) × (b .second ≡ recordAt list (b .place))
+        go Nothing h = absurd (true≢false (sym e ∙ h))
+        go (At k) h = (ap At (sym (h .1)), h .2 ∙ ap (recordAt list) (sym (h .1)))
 
-  -- the record at a place is the one that stands there
-  short-at : (k : ℕ) → recordAt short k ≡ recordAt list (g k)
-  short-at k = ap (λ (z : CandidateColor). getD (map (recordAt list) ps) k z) (sym (List·getD-eq-default list noRecord {n = length list} (omega arith)))
-      ∙ List·getD-map (recordAt list) ps k (length list)
+    -- what `two_of` answers
+    two-found : Asks list a → {r : FoundRecords} → r ≡ recordsAt list (nearestOf cs (a .target)) (secondAsked list a)
+        → NearestTwoRecords list (a .color) (a .width) r
+    unfolding nearestTwoOf
+    two-found A q =
+        two-granted list (a .color) z (a .width)
+        (q ∙ ap (λ (o : Oklab). recordsAt list (nearestOf cs o) (secondTo cs (a .width) (a .color) (nearestOf cs o))) (A .target))
 
-  short-is : candidatesOf short ≡ shortened cs width o
-  short-is = λ i. record {
-    count = length-map ps (recordAt list) i;
-    reduced = λ k. short-at k i .reduced;
-    normalized = λ k. short-at k i .normalized;
-    oklab =
-        λ k. short-at k i .oklab;
-  }
+    pub one-answered : Asks list a → b .two ≡ false → NearestTwoRecords list (a .color) (a .width) (both.One (b .first))
+    one-answered A e = two-found A (ap both.One first-found ∙ ap (recordsAt list (nearestOf cs (a .target))) (sym (none-found e)))
 
-  -- it is accepted
-  short-long : (0 < length short) × (length short ≤ 17)
-  short-long =
-      let l = length-map ps (recordAt list) in
-      let t = length-take (clampWidth width) (ranked (distances (cs .oklab (nearestOf cs o)) (cs .oklab)) (nearestOf cs o) (cs .count)) in
-      (omega (arith, l), omega (arith, l, t))
+    pub two-answered : Asks list a → b .two ≡ true → NearestTwoRecords list (a .color) (a .width) (both.Two (b .first) (b .second))
+    two-answered A e =
+        let s = second-found e in
+        two-found A ((λ i. both.Two (first-found i) (s .1 i)) ∙ ap (recordsAt list (nearestOf cs (a .target))) (sym (s .0)))
 
-  short-ranged : T (rangedTo short (length short))
-  short-ranged = all-ranged short (length short) (λ k l.
-      subst (λ (x : CandidateColor). T (allInRange (x .oklab))) (sym (short-at k))
-      (A .range (g k) (standing-inside cs width o color (A .positive) (A .range) O k (subst (λ (m : ℕ). k < m) (length-map ps (recordAt list)) l))))
+    -- ---- what `positions_of` answers
 
-  pub short-accepted : recordsNumber short ≡ 0
-  short-accepted = number-none short (short-long .0) (omega (arith, short-long .1)) short-ranged
+    -- the two by their positions, as the laws of `lookup` take them
+    abbrev pair : Two
+    pair = record { first = b .position; second = secondAsked list a }
 
-  -- and gives the same answers
-  records-same : (a : ℕ) (s : Second) → recordsAt list (g a) (renamed g s) ≡ recordsAt short a s
-  records-same a Nothing = λ i. both.One (sym (short-at a) i)
-  records-same a (At b) = λ i. both.Two (sym (short-at a) i) (sym (short-at b) i)
+    pair-found : pair ≡ nearestTwoOf cs (a .width) (a .target) (a .color)
+    unfolding nearestTwoOf
+    pair-found = λ i. record { first = F .nearest z .position i; second = secondAsked list a }
 
-  pub two-short : nearestTwoRecordsAnswer short color width (recordsNumber short) ≡ nearestTwoRecordsAnswer list color width 0
-  unfolding nearestTwoOf
-  two-short =
-      ap (nearestTwoRecordsAnswer short color width) short-accepted
-      ∙ (λ i. recordsAt short (nearestTwoOf (short-is i) width o color .first) (nearestTwoOf (short-is i) width o color .second))
-      ∙ sym (records-same (nearestTwoOf (shortened cs width o) width o color .first) (nearestTwoOf (shortened cs width o) width o color .second))
-      ∙ (λ i. recordsAt list (sym (first-short cs width o color (A .positive) (A .range) O) i)
-      (sym (second-short cs width o color (A .positive) (A .range) O) i))
+    pub solid-found : b .two ≡ false → {r : BracketAt} → r ≡ solidAt (b .position) → r ≡ bracketAtOf cs (a .width) (a .target) (a .color)
+    solid-found e {r} q = solid-is cs (a .width) (a .target) (a .color) pair pair-found r (none-found e) q
 
-  pub bracket-same : recordsBracketAnswer short color width (recordsNumber short) ≡ recordsBracketAnswer list color width 0
-  bracket-same =
-      ap (recordsBracketAnswer short color width) short-accepted
-      ∙ ap (λ (x : Candidates). bracket.Of (bracketOf x width o color)) short-is
-      ∙ ap bracket.Of (sym (bracket-short cs width o color (A .positive) (A .range) O))
+    pub bracket-found : b .two ≡ true → {r : BracketAt}
+        → ((oklab : ℕ → Oklab) → b .first .oklab ≡ oklab (b .position) → b .second .oklab ≡ oklab (b .place)
+        → r ≡ bracketWith oklab (b .position) (b .place) (b .first .normalized) (b .second .normalized) (b .color))
+        → r ≡ bracketAtOf cs (a .width) (a .target) (a .color)
+    bracket-found e {r} h =
+        let s = second-found e in
+        let f = F .nearest z .copy in
+        pair-is cs (a .width) (a .target) (a .color) pair pair-found r (b .place) (s .0) (b .first .normalized) (b .second .normalized)
+        (ap (λ (x : CandidateColor). x .normalized) f) (ap (λ (x : CandidateColor). x .normalized) (s .1))
+        (h (cs .oklab) (ap (λ (x : CandidateColor). x .oklab) f) (ap (λ (x : CandidateColor). x .oklab) (s .1))
+        ∙ ap (bracketWith (cs .oklab) (b .position) (b .place) (b .first .normalized) (b .second .normalized)) (F .color))
 
--- ---- the short list after the two passes
-pub joined-is : (list : List CandidateColor) (color : NormalizedColor) (width len : ℕ) (near others : Pass) → len ≡ length list → T (allInRange (toOklab color))
-    → Passed list (toOklab color) (length list) 1 (length list) near
-    → (recordsNumber list ≡ 0 → Passed list (recordAt list (nearestOf (candidatesOf list) (toOklab color)) .oklab)
-    (nearestOf (candidatesOf list) (toOklab color)) width (length list) others)
-    → (r : ℕ) → r ≡ numberBy len (near .ranged) → (total : ℕ) → (others .count ≤ 16 → total ≡ others .count + 1)
-    → {rs ns : List ℕ} {os : List Float} → LaidIn (take total (inLine (getD (near .kept) 0 noEntry .color) (others .kept))) total rs ns os
-    → Shortened list width color (record { number = r; count = total; reduced = rs; normalized = ns; oklab = os })
-joined-is list color width len near others e O P Q r g total T₁ {rs} {ns} {os} L = record {
-  range = O;
-  number = number-is list len (near .ranged) r e (P .ranged) g;
-  short = λ z. subst (λ (l : List CandidateColor). LaidIn l total rs ns os) (line z) L;
-}
-  where
-    cs : Candidates
-    cs = candidatesOf list
+    -- ---- what `bracket_of` answers
 
-    p : Oklab
-    p = recordAt list (nearestOf (candidatesOf list) (toOklab color)) .oklab
+    -- dark and light each are the nearest record's position, or the second record stands there: with no second they are both the nearest's, so what stands
+    -- for a second then is not asked about
+    abbrev End : ℕ → Type 0
+    End k = (k ≡ b .position) ⊎ (b .second ≡ recordAt list k)
 
-    line : recordsNumber list ≡ 0 → take total (inLine (getD (near .kept) 0 noEntry .color) (others .kept)) ≡ shortRecords list width color
-    line z =
-        let A = accepted list z in
-        let a : ℕ = nearestOf (candidatesOf list) (toOklab color) in
-        let K = Q z .keeps (A .range a (nearest-inside (candidatesOf list .oklab) (length list) (toOklab color) (A .positive))) (A .ranged) in
-        let js : List ℕ = shortlistOf (farOf list (recordAt list a .oklab)) a (length list) width in
-        let few : others .count ≤ 16 = omega (arith, K .count, length-take (clampWidth width) (ranked (farOf list (recordAt list a .oklab)) a (length list))) in
-        let one : total ≡ suc (others .count) = T₁ few ∙ add-one (others .count) in
-        let first : getD (near .kept) 0 noEntry .color ≡ recordAt list a =
-        ap (λ (x : Entry). x .color) (nearest-kept list (toOklab color) near P O (A .positive) (A .ranged)) in
-        let rest : take (others .count) (map (λ (x : Entry). x .color) (others .kept)) ≡ map (recordAt list) js =
-        sym (map-take (λ (x : Entry). x .color) (others .count) (others .kept)) ∙ ap (map (λ (x : Entry). x .color)) (K .front)
-        ∙ map-map (entryOf (recordAt list) (farOf list (recordAt list a .oklab))) (λ (x : Entry). x .color) js in
-        ap (λ (m : ℕ). take m (inLine (getD (near .kept) 0 noEntry .color) (others .kept))) one ∙ (λ i. first i ∷ rest i)
+    abbrev Ends : BracketAt → Type 0
+    Ends at = End (at .dark) × End (at .light)
 
--- ---- the records at two places of flat lists
-module _ (list : List CandidateColor) (t : Two) where
-  pub records-two : (b : ℕ) → t .second ≡ At b → (x y : CandidateColor) {x′ y′ : CandidateColor} → x ≡ x′ → y ≡ y′ → x′ ≡ recordAt list (t .first)
-      → y′ ≡ recordAt list b → both.Two x y ≡ recordsAt list (t .first) (t .second)
-  records-two b e x y p q f g = (λ i. both.Two ((p ∙ f) i) ((q ∙ g) i)) ∙ ap (recordsAt list (t .first)) (sym e)
+    ends : Ends (bracketAtOf cs (a .width) (a .target) (a .color))
+    unfolding nearestTwoOf bracketAtOf bracketWith
+    ends = go (secondAsked list a) (F .second z two)
+      where
+        n : ℕ
+        n = nearestOf cs (a .target)
 
-  pub records-one : t .second ≡ Nothing → (x : CandidateColor) {x′ : CandidateColor} → x ≡ x′ → x′ ≡ recordAt list (t .first)
-      → both.One x ≡ recordsAt list (t .first) (t .second)
-  records-one e x p f = ap both.One (p ∙ f) ∙ ap (recordsAt list (t .first)) (sym e)
+        first : End n
+        first = inl (sym (F .nearest z .position))
 
--- ---- the fronts of a short list's arrays that its records take
-module _ {s : Short} (R : Roomy s) where
-  pub fits : (4 * s .count ≤ length (s .reduced)) × (4 * s .count ≤ length (s .normalized)) × (3 * s .count ≤ length (s .oklab))
-  fits = (omega arith, omega arith, omega arith)
+        by-lighter : (u : Bool) (k : ℕ) (x y : Float) → End k
+            → Ends (cond u (record { dark = n; light = k; ratio = x }) (record { dark = k; light = n; ratio = y }))
+        by-lighter true k x y h = (first, h)
+        by-lighter false k x y h = (h, first)
 
-  pub fronts : (4 * s .count ≡ length (take (4 * s .count) (s .reduced))) × (4 * s .count ≡ length (take (4 * s .count) (s .normalized)))
-      × (3 * s .count ≡ length (take (3 * s .count) (s .oklab)))
-  fronts = (sym (length-take-le _ _ (fits .0)), sym (length-take-le _ _ (fits .1)), sym (length-take-le _ _ (fits .2)))
+        go : (x : Second) → Has list x b → Ends (bracketTwo (cs .oklab) (cs .normalized) (a .color) n x)
+        go Nothing h = (first, first)
+        go (At k) h = by-lighter (le (cs .oklab n .l) (cs .oklab k .l)) k _ _ (inr (h .2))
 
--- ---- the flat answer over the short list
--- its positions are entries
-pub two-inside : (rs ns : List ℕ) (os : List Float) (color : NormalizedColor) (width : ℕ) (x : FoundTwo) (t : Two) → FlatTwo rs ns os color width x
-    → x ≡ two.At t
-    → (t .first < length rs / 4) × ((b : ℕ) → t .second ≡ At b → b < length rs / 4)
-two-inside rs ns os color width x t p q =
-    let g = two-given rs ns os color width p q in
-    let A = Flat.accepted rs ns os (g .0) in
-    let cs = flat rs ns os in
-    (first-entry cs width (toOklab color) color t (g .1) (A .positive), second-entry cs width (toOklab color) color t (g .1) (A .positive) (A .ranged .range))
+    module _ (at : BracketAt) (q : at ≡ bracketAtOf cs (a .width) (a .target) (a .color)) where
+      pub ends-found : Ends at
+      ends-found = subst Ends (sym q) ends
 
--- of which there are at most 17
-pub two-few : (color : NormalizedColor) (width : ℕ) {s : Short} → Roomy s → {x : FoundTwo} {t : Two}
-    → FlatTwo (take (4 * s .count) (s .reduced)) (take (4 * s .count) (s .normalized)) (take (3 * s .count) (s .oklab)) color width x → x ≡ two.At t
-    → (t .first < 17) × ((b : ℕ) → t .second ≡ At b → b < 17)
-two-few color width {s} R {x} {t} p q =
-    let i = two-inside (take (4 * s .count) (s .reduced)) (take (4 * s .count) (s .normalized)) (take (3 * s .count) (s .oklab)) color width x t p q in
-    let l = length-take (4 * s .count) (s .reduced) in
-    (omega (arith, i .0, l), λ b e. omega (arith, i .1 b e, l))
-
-module _ {list : List CandidateColor} {color : NormalizedColor} {width : ℕ} {s : Short} (S : Shortened list width color s) (e : s .number ≡ 0) where
-  z : recordsNumber list ≡ 0
-  z = sym (S .number) ∙ e
-
-  L : LaidIn (shortRecords list width color) (s .count) (s .reduced) (s .normalized) (s .oklab)
-  L = S .short z
-
-  two-from : {x : FoundTwo} → FlatTwo (take (4 * s .count) (s .reduced)) (take (4 * s .count) (s .normalized)) (take (3 * s .count) (s .oklab)) color width x
-      → NearestTwoRecords list color width (foundTwoIn (shortRecords list width color) x)
-  two-from {x} h =
-      two-promised list color width (
-      two-flat (shortRecords list width color) color width
-      (transport (λ i. FlatTwo (L .reduced i) (L .normalized i) (L .oklab i) color width x) h)
-      ∙ two-short list color width (accepted list z) (S .range) ∙ ap (nearestTwoRecordsAnswer list color width) (sym z))
-
-  pub bracket-from : {x : FoundBracket}
-      → FlatBracket (take (4 * s .count) (s .reduced)) (take (4 * s .count) (s .normalized)) (take (3 * s .count) (s .oklab)) color width x
-      → RecordsBracket list color width x
-  bracket-from {x} h =
-      bracket-promised list color width (
-      bracket-flat (shortRecords list width color) color width
-      (transport (λ i. FlatBracket (L .reduced i) (L .normalized i) (L .oklab i) color width x) h)
-      ∙ bracket-same list color width (accepted list z) (S .range) ∙ ap (recordsBracketAnswer list color width) (sym z))
-
-  -- the records at the positions of the flat answer
-  record-from : (k : ℕ) → k < length (take (4 * s .count) (s .reduced)) / 4 → recordIn (s .reduced) (s .normalized) (s .oklab) k ≡ recordAt
-      (shortRecords list width color) k
-  record-from k h = laid-record (shortRecords list width color) L k (omega (arith, length-take (4 * s .count) (s .reduced)))
-
-  pub two-found : {x : FoundTwo} {t : Two} {r : FoundRecords}
-      → FlatTwo (take (4 * s .count) (s .reduced)) (take (4 * s .count) (s .normalized)) (take (3 * s .count) (s .oklab)) color width x → x ≡ two.At t
-      → ((l : List CandidateColor) → recordIn (s .reduced) (s .normalized) (s .oklab) (t .first) ≡ recordAt l (t .first)
-      → ((b : ℕ) → t .second ≡ At b → recordIn (s .reduced) (s .normalized) (s .oklab) b ≡ recordAt l b) → r ≡ recordsAt l (t .first) (t .second))
-      → NearestTwoRecords list color width r
-  two-found {x} {t} p q h =
-      let i = two-inside (take (4 * s .count) (s .reduced)) (take (4 * s .count) (s .normalized)) (take (3 * s .count) (s .oklab)) color width x t p q in
-      let short = shortRecords list width color in
-      subst (λ (r : FoundRecords). NearestTwoRecords list color width r)
-      (ap (foundTwoIn short) q ∙ sym (h short (record-from (t .first) (i .0)) (λ b e. record-from b (i .1 b e)))) (two-from p)
-
-  pub two-not-found : {x : FoundTwo} {n : ℕ}
-      → FlatTwo (take (4 * s .count) (s .reduced)) (take (4 * s .count) (s .normalized)) (take (3 * s .count) (s .oklab)) color width x → x ≡ two.Refused n
-      → NearestTwoRecords list color width (both.Refused n)
-  two-not-found p q = subst (λ (r : FoundRecords). NearestTwoRecords list color width r) (ap (foundTwoIn (shortRecords list width color)) q) (two-from p)
+      pub bracket-answered : Asks list a → {dark light : ReducedColor} → dark ≡ recordAt list (at .dark) .reduced → light ≡ recordAt list (at .light) .reduced
+          → RecordsBracket list (a .color) (a .width) (bracket.Of (record { dark = dark; light = light; ratio = at .ratio }))
+      unfolding colored
+      bracket-answered A d l =
+          bracket-granted list (a .color) z (a .width)
+          ((λ i. record { dark = d i; light = l i; ratio = at .ratio }) ∙ ap (colored (cs .reduced)) q
+          ∙ ap (λ (o : Oklab). bracketOf cs (a .width) o (a .color)) (A .target))

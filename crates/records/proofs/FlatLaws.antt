@@ -1,23 +1,20 @@
--- Records taken apart: a line of records laid down in flat lists; and flat lists of records are the same candidates with the same number, and give every
--- record back. Assumes nothing.
+-- Records taken apart: the flat lists of a list of records are the same candidates, with the same number. Assumes nothing.
 use mathlib.Core.Path.{_≡_, refl, sym, ap, _∙_, subst}
 use mathlib.Core.Logic.{_⊎_, inl, inr}
 use mathlib.Core.List.{List}
 use mathlib.Core.Bool.{Bool, true, false, not, _&&_}
-use Prim.Native.Nat.{ℕ, zero, suc, _+_, _-_, _*_, _/_, _%_, _≤_, _<_}
+use Prim.Native.Nat.{ℕ, zero, suc, _+_, _*_, _/_, _%_, _≤_, _<_}
 use native.Mathlib.Omega.{arith}
 use borrow.Author.Tests.{eq-eqb, ltb-true, ltb-false}
 use lib.Dec.{T, T-not, not-T, ltb}
-use lib.ListN.{length, getD, take, List·getD-eq-default, length-map}
-use lib.Seq.{sets, take-at, getD-take, length-take-le}
+use lib.ListN.{length, getD, List·getD-eq-default}
 use lib.Ieee.{Float, nan}
 use lib.Ieee.Fits.{and-l, and-r, and-i}
 use Rattle.lists.specs.Gather.{gather}
 use Rattle.lists.specs.First.{firstThat}
 use Rattle.lists.proofs.Bools.{is-true, is-false}
-use Rattle.lists.proofs.FillLaws.{Filling, fill-begin, fill-store}
 use Rattle.lists.proofs.FirstLaws.{first-is}
-use Rattle.lists.proofs.GatherLaws.{gather-same, gather-length, gather-at}
+use Rattle.lists.proofs.GatherLaws.{gather-length, gather-at}
 use Rattle.color.specs.declared.CandidateColor.{CandidateColor}
 use Rattle.color.specs.declared.Rgba8888.{Rgba8888}
 use Rattle.color.specs.declared.Oklab.{Oklab}
@@ -25,77 +22,11 @@ use Rattle.color.specs.Color.{rgba, rgbaAt, reducedAt, normalizedAt, bytesOf}
 use Rattle.color.specs.Oklab.{inRange, allInRange, oklabAt, floatsOf}
 use Rattle.shortlist.specs.Candidates.{flat}
 use Rattle.lookup.specs.Lists.{lengthsFit, firstOutside, listNumber}
-use Rattle.records.specs.declared.passes.Entry.{Entry}
 use Rattle.records.specs.Lists.{noRecord, recordAt, candidatesOf, rangedTo, numberBy, recordsNumber}
 use Rattle.records.specs.Lists.{reducedPiece, normalizedPiece, oklabPiece, reducedBytes, normalizedBytes, oklabFloats}
-use Rattle.records.specs.Keeping.{inLine, LaidIn, recordIn}
 use Rattle.records.proofs.ListLaws.{ranged-all, all-ranged}
-use Rattle.shortlist.proofs.MapLaws.{getD-map}
-use Rattle.records.proofs.KeepingLaws.{noEntry}
 
--- ---- a line of records laid down
-pub nth-later : (first : CandidateColor) (kept : List Entry) (i : ℕ) → length kept ≡ 16 → (i ≡ 0 → ⊥) → i < 17
-    → getD kept (i - 1) noEntry .color ≡ recordAt (inLine first kept) i
-nth-later first kept zero e h l = absurd (h refl)
-nth-later first kept (suc j) e h l =
-    ap (λ (m : ℕ). getD kept m noEntry .color) (down j) ∙ sym (getD-map (λ (x : Entry). x .color) kept j noRecord noEntry (omega arith))
-  where
-    down : (j : ℕ) → suc j - 1 ≡ j
-    down j = omega arith
-
--- pieces in place are the gathered pieces of any list whose pieces they are
-laid : {A : Type 0} (k n : ℕ) (piece other : ℕ → List A) (d s : List A) → ((j : ℕ) → length (piece j) ≡ k) → Filling k piece d s n
-    → ((j : ℕ) → j < n → piece j ≡ other j) → take (k * n) s ≡ gather n other
-laid k n piece other d s sized f same =
-    ap (take (k * n)) (f .so-far) ∙ take-at (gather n piece) _ (k * n) (gather-length k piece sized n) ∙ gather-same n same
-
--- the first i records of a line are in place in three flat lists, and the rest of these is as it was
-pub record Laying (line : List CandidateColor) (rs₀ ns₀ : List ℕ) (os₀ : List Float) (rs ns : List ℕ) (os : List Float) (i : ℕ) : Type 0 where
-  pub reduced : Filling 4 (reducedPiece line) rs₀ rs i
-  pub normalized : Filling 4 (normalizedPiece line) ns₀ ns i
-  pub oklab : Filling 3 (oklabPiece line) os₀ os i
-
-pub lay-begin : (line : List CandidateColor) (rs ns : List ℕ) (os : List Float) → Laying line rs ns os rs ns os 0
-lay-begin line rs ns os =
-    record { reduced = fill-begin 4 (reducedPiece line) rs; normalized = fill-begin 4 (normalizedPiece line) ns; oklab = fill-begin 3 (oklabPiece line) os }
-
-module _ {line : List CandidateColor} {rs₀ ns₀ : List ℕ} {os₀ : List Float} {rs ns : List ℕ} {os : List Float} {i : ℕ}
-    (L : Laying line rs₀ ns₀ os₀ rs ns os i) where
-  -- record i put where it belongs
-  pub lay-more : {rs′ ns′ : List ℕ} {os′ : List Float} → (c : CandidateColor) → c ≡ recordAt line i → 4 * (i + 1) ≤ length rs₀ → 4 * (i + 1) ≤ length ns₀
-      → 3 * (i + 1) ≤ length os₀
-      → rs′ ≡ sets rs (4 * i) (bytesOf (c .reduced .0)) → ns′ ≡ sets ns (4 * i) (bytesOf (c .normalized .0)) → os′ ≡ sets os (3 * i) (floatsOf (c .oklab))
-      → Laying line rs₀ ns₀ os₀ rs′ ns′ os′ (i + 1)
-  lay-more c e R N O r n o = record {
-    reduced = fill-store (L .reduced) (λ j. refl) R (r ∙ ap (λ (x : CandidateColor). sets rs (4 * i) (bytesOf (x .reduced .0))) e);
-    normalized = fill-store (L .normalized) (λ j. refl) N (n ∙ ap (λ (x : CandidateColor). sets ns (4 * i) (bytesOf (x .normalized .0))) e);
-    oklab = fill-store (L .oklab) (λ j. refl) O (o ∙ ap (λ (x : CandidateColor). sets os (3 * i) (floatsOf (x .oklab))) e);
-  }
-
-  -- the first i are in place
-  module _ (h : i ≤ length line) where
-    size : i ≡ length (take i line)
-    size = sym (length-take-le i line h)
-
-    same : (j : ℕ) → j < i → recordAt line j ≡ recordAt (take i line) j
-    same j l = sym (getD-take i line j noRecord l)
-
-    pub laid-in : LaidIn (take i line) i rs ns os
-    laid-in = record {
-      count = size;
-      reduced = laid 4 i (reducedPiece line) (reducedPiece (take i line)) rs₀ rs (λ j. refl) (L .reduced)
-          (λ j l. ap (λ (c : CandidateColor). bytesOf (c .reduced .0)) (same j l)) ∙ ap (λ (m : ℕ). gather m (reducedPiece (take i line))) size;
-      normalized = laid 4 i (normalizedPiece line) (normalizedPiece (take i line)) ns₀ ns (λ j. refl) (L .normalized)
-          (λ j l. ap (λ (c : CandidateColor). bytesOf (c .normalized .0)) (same j l)) ∙ ap (λ (m : ℕ). gather m (normalizedPiece (take i line))) size;
-      oklab = laid 3 i (oklabPiece line) (oklabPiece (take i line)) os₀ os (λ j. refl) (L .oklab)
-          (λ j l. ap (λ (c : CandidateColor). floatsOf (c .oklab)) (same j l)) ∙ ap (λ (m : ℕ). gather m (oklabPiece (take i line))) size;
-    }
-
--- a line of 17
-pub line-long : (first : CandidateColor) (kept : List Entry) → length kept ≡ 16 → length (inLine first kept) ≡ 17
-line-long first kept e = ap suc (length-map kept (λ (x : Entry). x .color) ∙ e)
-
--- ---- flat lists give every record back, and nothing beyond the last
+-- ---- flat lists give every colour back, and nothing beyond the last
 inside-or-beyond : (k n : ℕ) → (k < n) ⊎ (n ≤ k)
 inside-or-beyond k n = go (ltb k n) refl
   where
@@ -186,9 +117,6 @@ module _ (list : List CandidateColor) where
     | inr h ↦ oklab-beyond k h ∙ ap (λ (c : CandidateColor). c .oklab) (none-at k h)
   ]
 
-  pub record-back : (k : ℕ) → recordIn (reducedBytes list) (normalizedBytes list) (oklabFloats list) k ≡ recordAt list k
-  record-back k = λ i. record { reduced = reduced-at k i; normalized = normalized-at k i; oklab = oklab-at k i }
-
   bytes-long : length (reducedBytes list) ≡ 4 * n
   bytes-long = gather-length 4 (reducedPiece list) (λ i. refl) n
 
@@ -263,29 +191,3 @@ module _ (list : List CandidateColor) where
   pub number-agrees : listNumber (reducedBytes list) (normalizedBytes list) (oklabFloats list) ≡ recordsNumber list
   unfolding listNumber numberBy
   number-agrees = rw (fit, quarter, range-agrees)
-
--- ---- a record of flat lists that begin with those of a list
-module _ (list : List CandidateColor) {rs ns : List ℕ} {os : List Float} {n : ℕ} (L : LaidIn list n rs ns os) where
-  bytes-front : (bs : List ℕ) (k : ℕ) → k < n → rgbaAt (take (4 * n) bs) k ≡ rgbaAt bs k
-  unfolding rgbaAt
-  bytes-front bs k h =
-      let at : (j : ℕ) → j < 4 * n → getD (take (4 * n) bs) j 0 ≡ getD bs j 0 = λ j l. getD-take (4 * n) bs j 0 l in
-      let r = at (4 * k) (omega arith) in
-      let g = at (4 * k + 1) (omega arith) in
-      let b = at (4 * k + 2) (omega arith) in
-      let a = at (4 * k + 3) (omega arith) in
-      λ i. record { r = r i; g = g i; b = b i; a = a i }
-
-  floats-front : (k : ℕ) → k < n → oklabAt (take (3 * n) os) k ≡ oklabAt os k
-  unfolding oklabAt
-  floats-front k h =
-      let at : (j : ℕ) → j < 3 * n → getD (take (3 * n) os) j nan ≡ getD os j nan = λ j l. getD-take (3 * n) os j nan l in
-      let l = at (3 * k) (omega arith) in
-      let a = at (3 * k + 1) (omega arith) in
-      let b = at (3 * k + 2) (omega arith) in
-      λ i. record { l = l i; a = a i; b = b i }
-
-  pub laid-record : (k : ℕ) → k < n → recordIn rs ns os k ≡ recordAt list k
-  laid-record k h =
-      sym (λ i. record { reduced = record { 0 = bytes-front rs k h i }; normalized = record { 0 = bytes-front ns k h i }; oklab = floats-front k h i })
-      ∙ (λ i. recordIn (L .reduced i) (L .normalized i) (L .oklab i) k) ∙ record-back list k

@@ -1,11 +1,12 @@
 -- The laws of `records`.
 pub mod ListLaws
-pub mod KeepingLaws
+pub mod FirstLaws
+pub mod OtherLaws
 pub mod FlatLaws
 pub mod AgreeLaws
-pub mod ShortLaws
 pub mod AnswerLaws
-mod Said
 pub mod Told
-mod ShortWalk
+mod Said
+mod LookupCalls
+mod LookupWalk
 pub mod Unique

@@ -1,5 +1,5 @@
--- Lists of records: a list in range has every record in range; an accepted list has from 1 to 65,536 records, all in range; what the tests of `refusal`
--- say. Assumes nothing.
+-- Lists of records: a list in range has every record in range; an accepted list has from 1 to 65,536 records, all in range; a list's number, by the tests
+-- of its length and its range. Assumes nothing.
 use mathlib.Core.Path.{_≡_, sym, subst}
 use mathlib.Core.Logic.{inl, inr}
 use mathlib.Core.List.{List}
@@ -46,7 +46,7 @@ accepted list e =
     let r : T (rangedTo list (length list)) = holds (not-false (rangedTo list (length list)) (a .1 .0)) in
     record { positive = n .0; few = n .1; ranged = r; range = ranged-all list (length list) r }
 
--- ---- what the tests of `refusal` say
+-- ---- the number, by the two tests
 module _ (n : ℕ) (ranged : Bool) where
   pub refused-count : {t : Bool} → t ≡ countFits n → not t ≡ true → 4 ≡ numberBy n ranged
   unfolding numberBy

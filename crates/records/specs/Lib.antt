@@ -1,4 +1,4 @@
--- The definitions of `records`: lists of candidate records, what the lookups over them answer, and what a pass over a list keeps.
+-- The definitions of `records`: lists of candidate records, what the lookups over them answer, and how they read a list.
 pub mod Lists
 pub mod Answers
-pub mod Keeping
+pub mod Reading

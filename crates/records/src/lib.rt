@@ -1,26 +1,29 @@
-// The lookups over the caller's list of candidate records: `nearest`, `nearest_two` and `ordered_bracket` of
-// src/dither.rs, with its names and orders of parameters. `scan` has the one loop over the list; what it does with a
-// record is in `passes`, what is done with the few records that are left in `shorts`, which calls the flat lookups.
-mod passes;
-mod shorts;
+// The lookups over the caller's list of candidate records: `nearest`, `nearest_two` and `ordered_bracket` of src/dither.rs, with
+// its names and orders of parameters. `found_in` reads the list, one record at a time, by its position. Which record is wanted
+// next is in `search`, what is made of it in `firsts` and `others`, and what is answered in `answers`.
+mod answers;
+mod firsts;
+mod others;
+mod search;
+mod turns;
 
+use answers::bracket_of;
+use answers::chosen;
+use answers::two_of;
 use color::CandidateColor;
 use color::NormalizedColor;
 use lookup::FoundBracket;
-use passes::Pass;
-use passes::around;
-use passes::step;
-use passes::toward;
-use shorts::Short;
-use shorts::bracket_of;
-use shorts::chosen;
-use shorts::joined;
-use shorts::two_of;
-ghost use Prim.Native.Nat.{ℕ};
-ghost use lib.ListN.{length};
-ghost use Rattle.color.specs.declared.Oklab.{Oklab as Lab};
+use others::keep;
+use search::Asked;
+use search::Both;
+use search::ask;
+use search::begin;
+use search::found;
+use search::nothing;
+use search::wanted;
+use turns::turn;
 ghost use Rattle.records.specs.Answers.{NearestRecord, NearestTwoRecords, RecordsBracket};
-ghost use Rattle.records.specs.Keeping.{Passed, Roomy, Shortened};
+ghost use Rattle.records.specs.Reading.{Asks, Found};
 
 // What `nearest` answers.
 pub enum FoundRecord {
@@ -35,27 +38,21 @@ pub enum FoundRecords {
     Refused(u8),
 }
 
-// A pass over the list: every record has its turn.
-fn scan(list: &[CandidateColor], s: Pass) -> Pass
-    ensures { λ r. ⌜ ((o : Lab) (a w : ℕ) → Passed (now (list .entry)) o a w 0 s → Passed (now (list .entry)) o a w (length (now (list .entry))) r) ⌝ }
+// Reads the records that a search wants, one by one, until it wants none. No public call: the caller sees to what is asked.
+fn found_in(list: &[CandidateColor], asked: Asked) -> Both
+    requires { ⌜ Asks (now list) asked ⌝ }
+    ensures { λ r. ⌜ Found (now (list .entry)) asked r ⌝ }
 {
-    let mut at = s;
-    let mut i = 0;
-    while i < list.len() {
-        at = step(at, i, list[i]);
-        i += 1;
+    let mut at = begin(asked);
+    let mut kept = nothing();
+    let mut k = wanted(at);
+    while k < list.len() {
+        let c = list[k];
+        kept = keep(kept, at, c);
+        at = turn(at, kept, c);
+        k = wanted(at);
     }
-    at
-}
-
-// The nearest record and its shortlist, taken apart: two passes.
-fn shortened(color: NormalizedColor, list: &[CandidateColor], width: u64) -> Short
-    ensures { λ r. ⌜ Roomy r × Shortened (now (list .entry)) width color r ⌝ }
-{
-    let len = list.len();
-    let near = scan(list, toward(color, len));
-    let others = scan(list, around(near, width));
-    joined(len, near, others)
+    found(at)
 }
 
 // ---- the lookups: 4 where there is no record or more than 65,536, 6 where a component of one is not from -2 to 2
@@ -65,19 +62,21 @@ pub fn nearest(list: &[CandidateColor], color: NormalizedColor) -> FoundRecord
     ensures { λ r. ⌜ NearestRecord (now (list .entry)) color r ⌝ }
 {
     let len = list.len();
-    chosen(len, scan(list, toward(color, len)))
+    chosen(found_in(list, ask(color, len, 1, false)))
 }
 
 // The nearest record and the second.
 pub fn nearest_two(color: NormalizedColor, list: &[CandidateColor], width: u64) -> FoundRecords
     ensures { λ r. ⌜ NearestTwoRecords (now (list .entry)) color width r ⌝ }
 {
-    two_of(shortened(color, list, width), color, width)
+    let len = list.len();
+    two_of(found_in(list, ask(color, len, width, true)))
 }
 
 // The two colours that an ordered dither alternates between, and the share of the lighter.
 pub fn ordered_bracket(color: NormalizedColor, list: &[CandidateColor], width: u64) -> FoundBracket
     ensures { λ r. ⌜ RecordsBracket (now (list .entry)) color width r ⌝ }
 {
-    bracket_of(shortened(color, list, width), color, width)
+    let len = list.len();
+    bracket_of(found_in(list, ask(color, len, width, true)))
 }
