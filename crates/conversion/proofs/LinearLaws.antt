@@ -1,17 +1,16 @@
--- The table of linear values: the rule holds at each of its 256 entries, by one computed test; the rule determines the value; and no value
--- exceeds 10^8. Assumes nothing.
+-- The table of linear values: the rule holds at each of its 256 entries, by one computed test; the rule determines the value; no value
+-- exceeds 10^8; and bytes that hold the rests give each value, with the curve. Assumes nothing.
 use mathlib.Core.Path.{_≡_, refl, sym, ap, _∙_}
 use mathlib.Core.List.{List, [], _∷_}
 use mathlib.Core.Bool.{Bool, true, false, cond}
 use Prim.Native.Nat.{ℕ, zero, suc, _+_, _-_, _*_, _^_, _≤_, _<_}
-use native.Mathlib.Nat.{le-antisymm, lt-of-not-le, mul-le-mul-left, pow-le-pow-left, add-assoc, not-suc-le-zero}
+use native.Mathlib.Nat.{le-antisymm, lt-of-not-le, mul-le-mul-left, pow-le-pow-left, add-zero, zero-add, not-suc-le-zero}
 use native.Mathlib.Omega.{arith}
-use lib.ListN.{length, getD, drop}
-use lib.Seq.{getD-drop}
+use lib.ListN.{length, getD}
 use lib.Dec.{T, eqb, ltb, leb, eqb→eq, ltb→lt, leb→le}
 use lib.Ieee.Fits.{and-l, and-r}
 use Rattle.lists.proofs.Computed.{each}
-use Rattle.conversion.specs.Linear.{isNearest, isLinear, values, linearOf, valueAt, inBytes}
+use Rattle.conversion.specs.Linear.{isNearest, isLinear, values, linearOf, valueIn, inRests}
 
 -- ---- the rule at every entry
 pub rule : (k : ℕ) → k < 256 → T (isLinear k (linearOf k))
@@ -48,22 +47,15 @@ only-one k t u = go (leb k 10) _ _ _ _ _ _
     go true e d x e' d' x' = nearest-one e d x
     go false e d x e' d' x' = nearest-one e' d' x'
 
--- ---- the table in bytes
-next : (bytes : List ℕ) (i : ℕ) → valueAt (drop 4 bytes) i ≡ valueAt bytes (4 + i)
-next bytes i =
-    let at : (j : ℕ) → getD (drop 4 bytes) (i + j) 0 ≡ getD bytes (4 + i + j) 0 =
-    λ j. getD-drop 4 bytes (i + j) 0 ∙ ap (λ (n : ℕ). getD bytes n 0) (sym (add-assoc 4 i j)) in
-    λ q. getD-drop 4 bytes i 0 q + 256 * at 1 q + 65536 * at 2 q + 16777216 * at 3 q
+-- ---- the table as the curve and the rests
+in-rests : (rests xs : List ℕ) (i : ℕ) → T (inRests rests i xs) → (k : ℕ) → k < length xs → valueIn rests (i + k) ≡ getD xs k 0
+in-rests rests [] i t k h = absurd (not-suc-le-zero h)
+in-rests rests (x ∷ xs) i t zero h = rw add-zero (eqb→eq (valueIn rests i) x (and-l (eqb (valueIn rests i) x) (inRests rests (i + 1) xs) t))
+in-rests rests (x ∷ xs) i t (suc k) h =
+    let e : i + suc k ≡ i + 1 + k = omega arith in
+    ap (valueIn rests) e
+    ∙ in-rests rests xs (i + 1) (and-r (eqb (valueIn rests i) x) (inRests rests (i + 1) xs) t) k (omega arith)
 
-pub in-bytes : (bytes xs : List ℕ) → T (inBytes bytes xs) → (k : ℕ) → k < length xs → valueAt bytes (4 * k) ≡ getD xs k 0
-in-bytes bytes [] t k h = absurd (not-suc-le-zero h)
-in-bytes bytes (x ∷ xs) t zero h = eqb→eq (valueAt bytes 0) x (and-l (eqb (valueAt bytes 0) x) (inBytes (drop 4 bytes) xs) t)
-in-bytes bytes (x ∷ xs) t (suc k) h =
-    let e : 4 + 4 * k ≡ 4 * suc k = omega arith in
-    ap (valueAt bytes) (sym e)
-    ∙ sym (next bytes (4 * k))
-    ∙ in-bytes (drop 4 bytes) xs (and-r (eqb (valueAt bytes 0) x) (inBytes (drop 4 bytes) xs) t) k (omega arith)
-
-pub byte-value : (bytes : List ℕ) (k : ℕ) → T (inBytes bytes values) → k < 256 → valueAt bytes (4 * k) ≡ linearOf k
+pub rest-value : (rests : List ℕ) (k : ℕ) → T (inRests rests 0 values) → k < 256 → valueIn rests k ≡ linearOf k
 unfolding linearOf
-byte-value bytes k t h = in-bytes bytes values t k h
+rest-value rests k t h = ap (valueIn rests) (sym (zero-add k)) ∙ in-rests rests values 0 t k h

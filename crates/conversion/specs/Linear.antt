@@ -5,11 +5,11 @@
 -- This is IEC 61966-2-1 at the component v = k / 255: v / 12.92 where v is at most 0.04045, which is k up to 10, and above
 -- ((v + 0.055) / 1.055) ^ 2.4. For (k / 255) / 12.92 is 100 k / 329460, (k / 255 + 0.055) / 1.055 is (1000 k + 14025) / 269025, and
 -- 2.4 is 12 / 5.
-use Prim.Native.Nat.{ℕ, _+_, _-_, _*_, _^_}
+use Prim.Native.Nat.{ℕ, _+_, _-_, _*_, _/_, _^_}
 use mathlib.Core.Bool.{Bool, true, _&&_, cond}
 use mathlib.Core.List.{List, [], _∷_}
 use lib.Dec.{eqb, ltb, leb}
-use lib.ListN.{getD, drop}
+use lib.ListN.{getD}
 
 -- t is the nearest whole number, halves up, to the y with d (2 y)^e = x: t - 1/2 <= y < t + 1/2, compared as d (2 t - 1)^e <= x < d (2 t + 1)^e.
 -- Where t is 0, 2 t - 1 is 0 here, and the first holds as it should.
@@ -63,11 +63,15 @@ values =
 unfoldable pub linearOf : ℕ → ℕ
 linearOf k = getD values k 0
 
--- the value in the four bytes of a list from i on, the lowest first
-abbrev pub valueAt : List ℕ → ℕ → ℕ
-valueAt bytes i = getD bytes i 0 + 256 * getD bytes (i + 1) 0 + 65536 * getD bytes (i + 2) 0 + 16777216 * getD bytes (i + 3) 0
+-- a curve close below the table: no value exceeds it by 2^16 or more
+abbrev pub curveOf : ℕ → ℕ
+curveOf k = k * (1210000000 + k * (43500000 + k * (345000 - k * (800 - k)))) / 65536
 
--- a list of bytes holds a list of values, four bytes to a value
-abbrev pub inBytes : List ℕ → List ℕ → Bool
-inBytes bytes [] = true
-inBytes bytes (x ∷ xs) = eqb (valueAt bytes 0) x && inBytes (drop 4 bytes) xs
+-- the value of byte k, by the curve and the rest in two bytes of a list, the lower first
+abbrev pub valueIn : List ℕ → ℕ → ℕ
+valueIn rests k = curveOf k + (getD rests (2 * k) 0 + 256 * getD rests (2 * k + 1) 0)
+
+-- a list of bytes holds the rests of a list of values, those of byte k and on
+abbrev pub inRests : List ℕ → ℕ → List ℕ → Bool
+inRests rests k [] = true
+inRests rests k (x ∷ xs) = eqb (valueIn rests k) x && inRests rests (k + 1) xs
