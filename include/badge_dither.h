@@ -8,10 +8,10 @@
  * refusal changes nothing: what is behind a pointer and what is in a buffer is as it was, unless the call's comment says
  * otherwise.
  *
- * Buffers. A buffer is a pointer and, after it, a length that counts elements: bytes of a uint8_t buffer, floats of a float
- * buffer. The pointer may be null where the length is 0. A pointer to a single value is never null. What a call writes must
- * not overlap anything else of the same call; buffers that are only read (const) may share memory. Nothing is kept after a
- * call, no memory is allocated, and no call takes more than 16 KiB of stack.
+ * Buffers. A buffer is a pointer and, after it, a length (badge_length) that counts elements: bytes of a uint8_t buffer,
+ * floats of a float buffer. The pointer may be null where the length is 0. A pointer to a single value is never null. What a
+ * call writes must not overlap anything else of the same call; buffers that are only read (const) may share memory. Nothing
+ * is kept after a call, no memory is allocated, and no call takes more than 16 KiB of stack.
  *
  * Colours. A colour in a buffer is four bytes: red, green, blue, alpha. A reduced colour has a console's own precision, a
  * normalised one is the same colour from 0 to 255. An Oklab colour is three floats: lightness, a, b.
@@ -24,6 +24,16 @@
 
 #ifdef __cplusplus
 extern "C" {
+#endif
+
+/*
+ * A length. The library counts in 64 bits on every machine, so a length is 64 bits wide even where pointers are not: there
+ * size_t would put all that comes after it in the wrong place.
+ */
+#if UINTPTR_MAX == UINT64_MAX
+typedef size_t badge_length;
+#else
+typedef uint64_t badge_length;
 #endif
 
 /* The kinds of dithering. */
@@ -118,8 +128,9 @@ float badge_lerp(uint8_t r1, uint8_t g1, uint8_t b1, uint8_t r2, uint8_t g2, uin
  * The entry that is nearest to the colour, the first of equals.
  * Accepts: writes its position. Refuses: LENGTH, ENTRIES, COMPONENT.
  */
-uint32_t badge_nearest(const uint8_t *reduced, size_t reduced_len, const uint8_t *normalized, size_t normalized_len,
-                       const float *oklab, size_t oklab_len, uint8_t r, uint8_t g, uint8_t b, uint32_t *position);
+uint32_t badge_nearest(const uint8_t *reduced, badge_length reduced_len,
+                       const uint8_t *normalized, badge_length normalized_len, const float *oklab, badge_length oklab_len,
+                       uint8_t r, uint8_t g, uint8_t b, uint32_t *position);
 
 /*
  * The nearest entry, and a second that mixes well with it to the colour. Considered are the other entries that are nearest
@@ -129,9 +140,9 @@ uint32_t badge_nearest(const uint8_t *reduced, size_t reduced_len, const uint8_t
  * Accepts: writes the positions of the first and the second. A list of one entry has no second: then both are the same.
  * Refuses: LENGTH, ENTRIES, COMPONENT.
  */
-uint32_t badge_nearest_two(const uint8_t *reduced, size_t reduced_len, const uint8_t *normalized, size_t normalized_len,
-                           const float *oklab, size_t oklab_len, uint8_t r, uint8_t g, uint8_t b, uint64_t width,
-                           uint32_t *first, uint32_t *second);
+uint32_t badge_nearest_two(const uint8_t *reduced, badge_length reduced_len,
+                           const uint8_t *normalized, badge_length normalized_len, const float *oklab, badge_length oklab_len,
+                           uint8_t r, uint8_t g, uint8_t b, uint64_t width, uint32_t *first, uint32_t *second);
 
 /*
  * The two colours that an ordered dither alternates between for the colour: those of badge_nearest_two, the darker one
@@ -139,9 +150,10 @@ uint32_t badge_nearest_two(const uint8_t *reduced, size_t reduced_len, const uin
  * Accepts: writes the two reduced colours into dark and light, four bytes each, and the share behind ratio.
  * Refuses: LENGTH (also where dark or light is not 4 long), ENTRIES, COMPONENT.
  */
-uint32_t badge_ordered_bracket(const uint8_t *reduced, size_t reduced_len, const uint8_t *normalized, size_t normalized_len,
-                               const float *oklab, size_t oklab_len, uint8_t r, uint8_t g, uint8_t b, uint64_t width,
-                               uint8_t *dark, size_t dark_len, uint8_t *light, size_t light_len, float *ratio);
+uint32_t badge_ordered_bracket(const uint8_t *reduced, badge_length reduced_len,
+                               const uint8_t *normalized, badge_length normalized_len,
+                               const float *oklab, badge_length oklab_len, uint8_t r, uint8_t g, uint8_t b, uint64_t width,
+                               uint8_t *dark, badge_length dark_len, uint8_t *light, badge_length light_len, float *ratio);
 
 /*
  * Which of two colours stands at column x and row y: light, if the two differ in some byte and ratio exceeds the threshold
@@ -150,8 +162,8 @@ uint32_t badge_ordered_bracket(const uint8_t *reduced, size_t reduced_len, const
  * Refuses: KIND_OR_SHIFT (the kind), LENGTH (dark, light or chosen is not 4 long), NO_MATRIX (also where the two colours are
  * the same).
  */
-uint32_t badge_pick(const uint8_t *dark, size_t dark_len, const uint8_t *light, size_t light_len, float ratio,
-                    uint32_t kind, uint32_t x, uint32_t y, uint8_t *chosen, size_t chosen_len);
+uint32_t badge_pick(const uint8_t *dark, badge_length dark_len, const uint8_t *light, badge_length light_len, float ratio,
+                    uint32_t kind, uint32_t x, uint32_t y, uint8_t *chosen, badge_length chosen_len);
 
 /*
  * Pictures lie row by row, four bytes a pixel. The caller lends two tables of 256 bytes: reduction gives a console's own
@@ -172,9 +184,10 @@ uint32_t badge_pick(const uint8_t *dark, size_t dark_len, const uint8_t *light, 
  * TOO_MANY_CANDIDATES all of places is 0; oklab and what is behind count are as they were.
  */
 uint32_t badge_candidate_colors_in(uint32_t shift, uint32_t width, uint32_t height,
-                                   const uint8_t *reduction, size_t reduction_len, const uint8_t *scale, size_t scale_len,
-                                   const uint8_t *pixels, size_t pixels_len, uint8_t *places, size_t places_len,
-                                   float *oklab, size_t oklab_len, uint32_t *count);
+                                   const uint8_t *reduction, badge_length reduction_len,
+                                   const uint8_t *scale, badge_length scale_len,
+                                   const uint8_t *pixels, badge_length pixels_len, uint8_t *places, badge_length places_len,
+                                   float *oklab, badge_length oklab_len, uint32_t *count);
 
 /*
  * Dithers a picture to a palette of 1 to 256 reduced colours. Each pixel that is not transparent chooses an entry: with
@@ -191,10 +204,12 @@ uint32_t badge_candidate_colors_in(uint32_t shift, uint32_t width, uint32_t heig
  * Refuses: KIND_OR_SHIFT, SIZE, LENGTH, ENTRIES (the palette).
  */
 uint32_t badge_quantize_pixels(uint32_t shift, uint32_t kind, uint32_t width, uint32_t height,
-                               const uint8_t *reduction, size_t reduction_len, const uint8_t *scale, size_t scale_len,
-                               const uint8_t *palette, size_t palette_len, const uint8_t *pixels, size_t pixels_len,
-                               uint8_t *indices, size_t indices_len, uint8_t *out, size_t out_len,
-                               float *cells, size_t cells_len);
+                               const uint8_t *reduction, badge_length reduction_len,
+                               const uint8_t *scale, badge_length scale_len,
+                               const uint8_t *palette, badge_length palette_len,
+                               const uint8_t *pixels, badge_length pixels_len,
+                               uint8_t *indices, badge_length indices_len, uint8_t *out, badge_length out_len,
+                               float *cells, badge_length cells_len);
 
 /*
  * Dithers a picture to its own candidates (see badge_candidate_colors_in), and judges its tiles. The picture is a part of a
@@ -219,10 +234,11 @@ uint32_t badge_quantize_pixels(uint32_t shift, uint32_t kind, uint32_t width, ui
 uint32_t badge_dither_to_mode(uint32_t shift, uint32_t kind, uint32_t width, uint32_t height,
                               uint32_t origin_x, uint32_t origin_y, uint32_t tile_width, uint32_t tile_height, uint32_t limit,
                               uint32_t has_zero, uint8_t zero_r, uint8_t zero_g, uint8_t zero_b, uint8_t zero_a,
-                              const uint8_t *reduction, size_t reduction_len, const uint8_t *scale, size_t scale_len,
-                              const uint8_t *pixels, size_t pixels_len, uint8_t *places, size_t places_len,
-                              float *oklab, size_t oklab_len, uint8_t *out, size_t out_len, float *cells, size_t cells_len,
-                              uint32_t *count, uint32_t *tile);
+                              const uint8_t *reduction, badge_length reduction_len,
+                              const uint8_t *scale, badge_length scale_len,
+                              const uint8_t *pixels, badge_length pixels_len, uint8_t *places, badge_length places_len,
+                              float *oklab, badge_length oklab_len, uint8_t *out, badge_length out_len,
+                              float *cells, badge_length cells_len, uint32_t *count, uint32_t *tile);
 
 /*
  * The calls below read and write PAM files, in the layout of Netpbm's document "pam".
@@ -257,14 +273,14 @@ uint32_t badge_dither_to_mode(uint32_t shift, uint32_t kind, uint32_t width, uin
  * The size of the picture in a PAM file, which tells how much to lend to badge_read_pam.
  * Accepts: writes the width and the height. Refuses: PAM_HEADER, SIZE, PAM_PIXELS.
  */
-uint32_t badge_pam_size(const uint8_t *file, size_t file_len, uint32_t *width, uint32_t *height);
+uint32_t badge_pam_size(const uint8_t *file, badge_length file_len, uint32_t *width, uint32_t *height);
 
 /*
  * Reads a PAM file. Lengths: pixels 4 a pixel, of the size that badge_pam_size gives.
  * Accepts: writes the pixels, each with alpha 255 where the file has RGB, and the width and the height.
  * Refuses: PAM_HEADER, SIZE, PAM_PIXELS, LENGTH (pixels).
  */
-uint32_t badge_read_pam(const uint8_t *file, size_t file_len, uint8_t *pixels, size_t pixels_len,
+uint32_t badge_read_pam(const uint8_t *file, badge_length file_len, uint8_t *pixels, badge_length pixels_len,
                         uint32_t *width, uint32_t *height);
 
 /*
@@ -277,8 +293,8 @@ uint32_t badge_pam_length(uint32_t width, uint32_t height, uint64_t *length);
  * Writes a picture as a PAM file. Lengths: pixels 4 a pixel; file as badge_pam_length says. Only file is written.
  * Accepts: fills the file. Refuses: PAM_HEADER (a side is 0, whatever the other is), SIZE, LENGTH.
  */
-uint32_t badge_write_pam(uint32_t width, uint32_t height, const uint8_t *pixels, size_t pixels_len,
-                         uint8_t *file, size_t file_len);
+uint32_t badge_write_pam(uint32_t width, uint32_t height, const uint8_t *pixels, badge_length pixels_len,
+                         uint8_t *file, badge_length file_len);
 
 #ifdef __cplusplus
 }

@@ -18,8 +18,11 @@ static_assert(BADGE_ACCEPTED == 0 && BADGE_REFUSED_KIND_OR_SHIFT == 1 && BADGE_R
                   BADGE_REFUSED_NO_MATRIX == 9 && BADGE_REFUSED_PAM_HEADER == 10 && BADGE_REFUSED_PAM_PIXELS == 11,
               "the numbers of the scope document's table, and of the requests after it");
 
+static_assert(sizeof(badge_length) == 8, "a length is 64 bits, where pointers are smaller too");
+
 typedef const uint8_t *bytes;
 typedef const float *floats;
+typedef badge_length length;
 
 int main(void)
 {
@@ -28,23 +31,23 @@ int main(void)
     uint32_t (*threshold)(uint32_t, uint32_t, uint32_t, float *) = badge_ordered_threshold;
     uint32_t (*width)(uint32_t, uint64_t, uint64_t *) = badge_bracket_width;
     float (*lerp)(uint8_t, uint8_t, uint8_t, uint8_t, uint8_t, uint8_t, uint8_t, uint8_t, uint8_t, uint32_t) = badge_lerp;
-    uint32_t (*nearest)(bytes, size_t, bytes, size_t, floats, size_t, uint8_t, uint8_t, uint8_t, uint32_t *) = badge_nearest;
-    uint32_t (*nearest_two)(bytes, size_t, bytes, size_t, floats, size_t, uint8_t, uint8_t, uint8_t, uint64_t, uint32_t *,
+    uint32_t (*nearest)(bytes, length, bytes, length, floats, length, uint8_t, uint8_t, uint8_t, uint32_t *) = badge_nearest;
+    uint32_t (*nearest_two)(bytes, length, bytes, length, floats, length, uint8_t, uint8_t, uint8_t, uint64_t, uint32_t *,
                             uint32_t *) = badge_nearest_two;
-    uint32_t (*bracket)(bytes, size_t, bytes, size_t, floats, size_t, uint8_t, uint8_t, uint8_t, uint64_t, uint8_t *, size_t,
-                        uint8_t *, size_t, float *) = badge_ordered_bracket;
-    uint32_t (*pick)(bytes, size_t, bytes, size_t, float, uint32_t, uint32_t, uint32_t, uint8_t *, size_t) = badge_pick;
-    uint32_t (*candidates)(uint32_t, uint32_t, uint32_t, bytes, size_t, bytes, size_t, bytes, size_t, uint8_t *, size_t,
-                           float *, size_t, uint32_t *) = badge_candidate_colors_in;
-    uint32_t (*quantize)(uint32_t, uint32_t, uint32_t, uint32_t, bytes, size_t, bytes, size_t, bytes, size_t, bytes, size_t,
-                         uint8_t *, size_t, uint8_t *, size_t, float *, size_t) = badge_quantize_pixels;
+    uint32_t (*bracket)(bytes, length, bytes, length, floats, length, uint8_t, uint8_t, uint8_t, uint64_t, uint8_t *, length,
+                        uint8_t *, length, float *) = badge_ordered_bracket;
+    uint32_t (*pick)(bytes, length, bytes, length, float, uint32_t, uint32_t, uint32_t, uint8_t *, length) = badge_pick;
+    uint32_t (*candidates)(uint32_t, uint32_t, uint32_t, bytes, length, bytes, length, bytes, length, uint8_t *, length,
+                           float *, length, uint32_t *) = badge_candidate_colors_in;
+    uint32_t (*quantize)(uint32_t, uint32_t, uint32_t, uint32_t, bytes, length, bytes, length, bytes, length, bytes, length,
+                         uint8_t *, length, uint8_t *, length, float *, length) = badge_quantize_pixels;
     uint32_t (*to_mode)(uint32_t, uint32_t, uint32_t, uint32_t, uint32_t, uint32_t, uint32_t, uint32_t, uint32_t, uint32_t,
-                        uint8_t, uint8_t, uint8_t, uint8_t, bytes, size_t, bytes, size_t, bytes, size_t, uint8_t *, size_t,
-                        float *, size_t, uint8_t *, size_t, float *, size_t, uint32_t *, uint32_t *) = badge_dither_to_mode;
-    uint32_t (*pam_size)(bytes, size_t, uint32_t *, uint32_t *) = badge_pam_size;
-    uint32_t (*read_pam)(bytes, size_t, uint8_t *, size_t, uint32_t *, uint32_t *) = badge_read_pam;
+                        uint8_t, uint8_t, uint8_t, uint8_t, bytes, length, bytes, length, bytes, length, uint8_t *, length,
+                        float *, length, uint8_t *, length, float *, length, uint32_t *, uint32_t *) = badge_dither_to_mode;
+    uint32_t (*pam_size)(bytes, length, uint32_t *, uint32_t *) = badge_pam_size;
+    uint32_t (*read_pam)(bytes, length, uint8_t *, length, uint32_t *, uint32_t *) = badge_read_pam;
     uint32_t (*pam_length)(uint32_t, uint32_t, uint64_t *) = badge_pam_length;
-    uint32_t (*write_pam)(uint32_t, uint32_t, bytes, size_t, uint8_t *, size_t) = badge_write_pam;
+    uint32_t (*write_pam)(uint32_t, uint32_t, bytes, length, uint8_t *, length) = badge_write_pam;
     return !(to_oklab && sqdist && threshold && width && lerp && nearest && nearest_two && bracket && pick && candidates &&
              quantize && to_mode && pam_size && read_pam && pam_length && write_pam);
 }
