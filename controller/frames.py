@@ -1,0 +1,242 @@
+"""The stack that each public call needs on the controller, as Markdown tables.
+
+    python3 frames.py PROGRAM REPORT HEADER [STACK]
+
+PROGRAM is the linked program, whose instructions are followed by arm-none-eabi-objdump's listing: from a function's entry along
+every branch, with how far the stack pointer is below where it was; a call adds what the called function needs. So the functions
+of libgcc and of the C library count as the library's own do. REPORT is the compiler's (-fstack-usage); every frame in it has to
+be the one that the instructions make. HEADER is the C header, which says what goes over the stack as arguments. STACK is what
+the board measured; nothing there may be above what is worked out here. Fails where something does not fit, or where a call
+needs more than BOUND.
+"""
+
+import re
+import subprocess
+import sys
+from typing import NamedTuple
+
+BOUND = 16384
+# How often a function that calls itself can be on the stack at a time. A side is at most 4,096, which every caller is proved to
+# see to, so it has at most four digits.
+LEVELS = {"pam::writing::put_decimal": 4}
+CONDITIONS = "eq ne cs hs cc lo mi pl vs vc hi ls ge lt gt le".split()
+WORDS = "b bl blx bx cbz cbnz tbb tbh push pop vpush vpop stmdb ldmia add addw sub subw mov str strd ldr ldrd udf".split()
+READ = {f"{word}{condition}": (word, True) for word in WORDS for condition in CONDITIONS} | {w: (w, False) for w in WORDS}
+
+
+class Instruction(NamedTuple):
+    word: str  # without condition and width; empty for one that plays no part here
+    conditional: bool
+    operands: str
+    after: int  # the address after it
+
+
+class Listing:
+    """The program's instructions, the bytes of its tables, and the functions that begin at an address."""
+
+    def __init__(self, text):
+        self.code, self.data, self.names, self.starts = {}, {}, {}, {}
+        name = None
+        for line in text.splitlines():
+            if label := re.match(r"([0-9a-f]+) <(.+)>:$", line):
+                name = label[2]
+                self.starts[name] = int(label[1], 16)
+            elif found := re.match(r" *([0-9a-f]+):\t([0-9a-f ]+?) *\t(\S+)(?:\t([^@;]*))?", line):
+                self.take(int(found[1], 16), found[2], found[3], (found[4] or "").strip(), name)
+
+    def take(self, at, encoding, word, operands, name):
+        size = len(encoding.replace(" ", "")) // 2
+        if word.startswith("."):
+            for i, byte in enumerate(int(operands, 16).to_bytes(size, "little")):
+                self.data[at + i] = byte
+            return
+        word, conditional = READ.get(re.sub(r"\.[nw]$", "", word), ("", False))
+        self.code[at] = Instruction(word, conditional, operands, at + size)
+        self.names[at] = name
+
+
+def registers(text):
+    """How many bytes the registers in braces take."""
+    size = 0
+    for part in re.search(r"\{(.*)\}", text)[1].split(", "):
+        ends = part.split("-")
+        count = int(ends[-1][1:]) - int(ends[0][1:]) + 1 if len(ends) == 2 else 1
+        size += count * (8 if part[0] == "d" else 4)
+    return size
+
+
+def lowered(instruction):
+    """How far an instruction takes the stack pointer down; less than 0 where it takes it up."""
+    word, _, operands, _ = instruction
+    if word in ("push", "vpush") or word == "stmdb" and operands.startswith("sp!"):
+        return registers(operands)
+    if word in ("pop", "vpop") or word == "ldmia" and operands.startswith("sp!"):
+        return -registers(operands)
+    if word in ("str", "strd") and (found := re.search(r"\[sp, #-(\d+)\]!", operands)):
+        return int(found[1])
+    if word in ("ldr", "ldrd") and (found := re.search(r"\[sp\], #(\d+)", operands)):
+        return -int(found[1])
+    if operands.startswith("sp,") and (found := re.fullmatch(r"sp, (?:sp, )?#(\d+)", operands)):
+        if word.startswith(("add", "sub")):
+            return int(found[1]) * (1 if word.startswith("sub") else -1)
+    if re.match(r"sp\b", operands) and word in ("add", "addw", "sub", "subw", "mov", "ldr") or "sp, #" in operands and "]!" in operands:
+        raise SystemExit(f"an instruction that is not followed: {word} {operands}")
+    return 0
+
+
+def ends(instruction):
+    """Whether an instruction returns, or goes no further."""
+    word, _, operands, _ = instruction
+    returns = word in ("pop", "ldmia") and "pc" in operands or word == "ldr" and operands.startswith("pc")
+    return returns or word == "udf" or word == "bx" and operands == "lr"
+
+
+class Need(NamedTuple):
+    frame: int  # of the function itself
+    depth: int  # with all below it
+    path: tuple  # the functions on the deepest way, each with how deep it stands at its call
+
+
+class Stack:
+    """What each function needs, worked out once."""
+
+    def __init__(self, listing):
+        self.listing, self.known, self.open = listing, {}, []
+
+    def of(self, start):
+        if start in self.known:
+            return self.known[start]
+        if start in self.open:
+            raise SystemExit(f"{self.listing.names[start]} calls itself: its stack has no bound")
+        self.open.append(start)
+        self.known[start] = self.worked_out(start)
+        self.open.pop()
+        return self.known[start]
+
+    def worked_out(self, start):
+        """Follows every way through a function. A way that meets another goes on with the greater depth."""
+        name, frame, deepest, again, path = self.listing.names[start], 0, 0, 0, ()
+        met, left = {}, [(start, 0)]
+        while left:
+            at, depth = left.pop()
+            if met.get(at, -1) >= depth:
+                continue
+            if depth > 1 << 20 or at not in self.listing.code:
+                raise SystemExit(f"{name} leads nowhere, at {at:#x}")
+            met[at] = depth
+            instruction = self.listing.code[at]
+            # Where it depends on a condition, the stack pointer is taken to be the lower one.
+            change = lowered(instruction)
+            below = depth + max(change, 0)
+            if self.listing.names[at] == name:
+                frame = max(frame, below)
+            if below > deepest:
+                deepest, path = below, ((name, below),)
+            if instruction.word == "bl" and target(instruction) == start and name in LEVELS:
+                again = max(again, depth)
+            elif instruction.word == "bl":
+                inner = self.of(target(instruction))
+                if depth + inner.depth > deepest:
+                    deepest, path = depth + inner.depth, ((name, depth), *inner.path)
+            after = below if instruction.conditional else depth + change
+            left += [(place, after) for place in self.following(at, instruction)]
+        return Need(frame, deepest + again * (LEVELS.get(name, 1) - 1), path)
+
+    def following(self, at, instruction):
+        word, conditional, operands, after = instruction
+        if word == "blx" or word == "bx" and operands != "lr":
+            raise SystemExit(f"{self.listing.names[at]} calls by an address that is not known, at {at:#x}")
+        if word in ("tbb", "tbh"):
+            return self.table(at, 1 if word == "tbb" else 2)
+        places = [target(instruction)] if word in ("b", "cbz", "cbnz") else []
+        stops = word == "b" or ends(instruction)
+        return places + ([] if stops and not conditional else [after])
+
+    def table(self, at, size):
+        """Where a table of branches, which stands behind its instruction, leads. Its last byte may be there to fill up."""
+        places, place = [], at + 4
+        while all(place + i in self.listing.data for i in range(size)):
+            entry = int.from_bytes(bytes(self.listing.data[place + i] for i in range(size)), "little")
+            places.append(at + 4 + 2 * entry)
+            place += size
+        return [place for place in places if place in self.listing.code]
+
+
+def target(instruction):
+    return int(re.search(r"\b([0-9a-f]+) <", instruction.operands)[1], 16)
+
+
+def arguments(header, name):
+    """The bytes of a call's arguments that go over the stack, by the rules of Arm's procedure call standard: four words in
+    registers, a value of 64 bits at an even one, and on the stack at a multiple of 8; floats have registers of their own."""
+    declared = re.search(rf"\b{name}\(([^)]*)\)", header)[1]
+    used, stacked = 0, 0
+    for argument in declared.split(","):
+        if "*" not in argument and "float" in argument:
+            continue
+        size = 2 if "*" not in argument and re.search(r"badge_length|uint64_t", argument) else 1
+        used += used % 2 if size == 2 else 0
+        if used + size <= 4:
+            used += size
+            continue
+        used = 4
+        stacked += stacked % 2 if size == 2 else 0
+        stacked += size
+    return 4 * (stacked + stacked % 2)
+
+
+def number(n):
+    return f"{n:,}"
+
+
+def row(cells):
+    print("| " + " | ".join(cells) + " |")
+
+
+def public_calls(stack, header, measured):
+    """The table of the public calls. Answers whether all is within its bounds."""
+    fine = True
+    names = re.findall(r"\b(badge_\w+)\(", header)
+    row(["call", "its frame", "with all below", "arguments", "in all"] + ["written on the board"] * bool(measured) + ["deepest way"])
+    row(["---"] + ["---:"] * (5 if measured else 4) + ["---"])
+    for name in names:
+        need = stack.of(stack.listing.starts[name])
+        passed = arguments(header, name)
+        way = ", ".join(f"`{inner}`" for inner, _ in need.path[1:])
+        cells = [need.frame, need.depth, passed, need.depth + passed] + ([measured[name]] if measured else [])
+        row([f"`{name}`"] + [number(cell) for cell in cells] + [way])
+        fine = fine and need.depth + passed <= BOUND and measured.get(name, 0) <= need.depth
+    return fine
+
+
+def inner_frames(stack, report):
+    """The table of the library's largest frames. Answers whether each is the compiler's own."""
+    print("\n| function | frame | with all below |\n|---|---:|---:|")
+    fine = True
+    for name, size in sorted(report.items(), key=lambda entry: -entry[1]):
+        need = stack.of(stack.listing.starts[name])
+        fine = fine and need.frame == size
+        if size >= 64 and not name.startswith("badge_"):
+            row([f"`{name}`", number(size), number(need.depth)])
+    print(f"\n{len(report)} functions; each frame is {'' if fine else 'not '}the one of the compiler's report")
+    return fine
+
+
+def main(program, report, header, measured=None):
+    listed = subprocess.run(["arm-none-eabi-objdump", "-d", program], capture_output=True, text=True, check=True)
+    stack = Stack(Listing(listed.stdout))
+    with open(header, encoding="utf-8") as file:
+        declared = re.sub(r"/\*.*?\*/", "", file.read(), flags=re.S)
+    with open(report, encoding="utf-8") as file:
+        sizes = {(fields := line.split("\t"))[0].split(":", 1)[1]: int(fields[1]) for line in file}
+    written = {}
+    if measured:
+        with open(measured, encoding="utf-8") as file:
+            written = {(fields := line.split())[0]: int(fields[1]) for line in file}
+    within = public_calls(stack, declared, written)
+    same = inner_frames(stack, sizes)
+    if not within or not same:
+        raise SystemExit(f"a call needs more than {number(BOUND)} bytes, or wrote more than it needs, or a frame is another")
+
+
+main(*sys.argv[1:])
