@@ -1,9 +1,13 @@
 /*
- * The calls of the C interface, one after the other: for the table of the stack (board.c) and the ways to it (measure.S).
+ * The calls whose stack is measured: for the table of the stack (board.c) and the ways to it (measure.S). They are those of the
+ * C interface, or the one way to the lookups over records (records.c).
  */
 #ifndef CALLS_H
 #define CALLS_H
 
+#ifdef RECORDS
+#define EACH_CALL(DO) DO(record_stack)
+#else
 #define EACH_CALL(DO)                                                                                                          \
     DO(badge_to_oklab)                                                                                                         \
     DO(badge_oklab_sqdist)                                                                                                     \
@@ -21,5 +25,6 @@
     DO(badge_read_pam)                                                                                                         \
     DO(badge_pam_length)                                                                                                       \
     DO(badge_write_pam)
+#endif
 
 #endif

@@ -25,7 +25,7 @@ void say_number(uint32_t n)
 /* ---- the group that is open */
 
 static struct {
-    bool open, flat, no_call;
+    bool open, records, no_call;
     uint32_t count, first; /* its cases, and the number of the first that differs, 0 where there is none */
 } group;
 
@@ -45,7 +45,8 @@ static void end_group(void)
     say(group.first == 0 ? " same" : " differs at ");
     if (group.first != 0)
         say_number(group.first);
-    say(group.flat ? ", by the flat lookup\n" : "\n");
+    say(group.records ? records_by : "");
+    say("\n");
     some_differ = some_differ || group.first != 0;
 }
 
@@ -77,7 +78,7 @@ static void replay_line(const uint8_t *line, size_t len)
     Verdict verdict = replay(line[0]);
     group.count++;
     group.no_call = group.no_call || verdict == NO_CALL;
-    group.flat = group.flat || line[0] == 'N' || line[0] == 'M' || line[0] == 'B';
+    group.records = group.records || line[0] == 'N' || line[0] == 'M' || line[0] == 'B';
     if (verdict == DIFFERS && group.first == 0)
         group.first = group.count;
 }

@@ -1,31 +1,33 @@
-"""The stack that each public call needs on the controller, as Markdown tables.
+"""The stack that calls need on the controller, as Markdown tables.
 
-    python3 frames.py PROGRAM REPORT HEADER [STACK]
+    python3 frames.py [--header HEADER] [--board STACK] PROGRAM REPORT [NAME..]
 
-PROGRAM is the linked program, whose instructions are followed by arm-none-eabi-objdump's listing: from a function's entry along
-every branch, with how far the stack pointer is below where it was; a call adds what the called function needs. So the functions
-of libgcc and of the C library count as the library's own do. REPORT is the compiler's (-fstack-usage); every frame in it has to
-be the one that the instructions make. HEADER is the C header, which says what goes over the stack as arguments. STACK is what
-the board measured; nothing there may be above what is worked out here. Fails where something does not fit, or where a call
-needs more than BOUND.
+PROGRAM is the linked program, whose instructions are followed by arm-none-eabi-objdump's listing: from a function's entry
+along every branch, with how far the stack pointer is below where it was; a call adds what the called function needs. So the
+functions of libgcc and of the C library count as the library's own do. REPORT is the compiler's (-fstack-usage); every frame
+in it has to be the one that the instructions make. The calls are those of HEADER, the C header, which says what goes over the
+stack as arguments, or the functions that are named. STACK is what the board measured; nothing there may be above what is
+worked out here. Fails where something does not fit, or where a call needs more than BOUND.
 """
 
+import argparse
 import re
 import subprocess
-import sys
 from typing import NamedTuple
 
 BOUND = 16384
 # How often a function that calls itself can be on the stack at a time. A side is at most 4,096, which every caller is proved to
 # see to, so it has at most four digits.
 LEVELS = {"pam::writing::put_decimal": 4}
+# The program's own way to the lookups over records, which has a list of 300 of them in its frame: no call, and not bounded.
+NO_CALL = "record_stack"
 CONDITIONS = "eq ne cs hs cc lo mi pl vs vc hi ls ge lt gt le".split()
-WORDS = "b bl blx bx cbz cbnz tbb tbh push pop vpush vpop stmdb ldmia add addw sub subw mov str strd ldr ldrd udf".split()
+WORDS = "b bl blx bx cbz cbnz tbb tbh push pop vpush vpop stmdb ldmia add addw sub subw str strd ldr ldrd cmp udf".split()
 READ = {f"{word}{condition}": (word, True) for word in WORDS for condition in CONDITIONS} | {w: (w, False) for w in WORDS}
 
 
 class Instruction(NamedTuple):
-    word: str  # without condition and width; empty for one that plays no part here
+    word: str  # without condition and width; empty where it is none of WORDS
     conditional: bool
     operands: str
     after: int  # the address after it
@@ -76,10 +78,10 @@ def lowered(instruction):
         return int(found[1])
     if word in ("ldr", "ldrd") and (found := re.search(r"\[sp\], #(\d+)", operands)):
         return -int(found[1])
-    if operands.startswith("sp,") and (found := re.fullmatch(r"sp, (?:sp, )?#(\d+)", operands)):
-        if word.startswith(("add", "sub")):
-            return int(found[1]) * (1 if word.startswith("sub") else -1)
-    if re.match(r"sp\b", operands) and word in ("add", "addw", "sub", "subw", "mov", "ldr") or "sp, #" in operands and "]!" in operands:
+    if word in ("sub", "subw", "add", "addw") and (found := re.fullmatch(r"sp, (?:sp, )?#(\d+)", operands)):
+        return int(found[1]) if word.startswith("sub") else -int(found[1])
+    # Any other way to change it: as what is written, not as an address, or as an address that is written back.
+    if re.match(r"sp, [^{]", operands) and word != "cmp" or re.search(r"\[sp[^]]*\](!|, )|sp!", operands):
         raise SystemExit(f"an instruction that is not followed: {word} {operands}")
     return 0
 
@@ -185,58 +187,77 @@ def arguments(header, name):
     return 4 * (stacked + stacked % 2)
 
 
-def number(n):
-    return f"{n:,}"
-
-
 def row(cells):
     print("| " + " | ".join(cells) + " |")
 
 
-def public_calls(stack, header, measured):
-    """The table of the public calls. Answers whether all is within its bounds."""
-    fine = True
-    names = re.findall(r"\b(badge_\w+)\(", header)
-    row(["call", "its frame", "with all below", "arguments", "in all"] + ["written on the board"] * bool(measured) + ["deepest way"])
-    row(["---"] + ["---:"] * (5 if measured else 4) + ["---"])
-    for name in names:
+def way_of(path):
+    """The functions below a call, on the deepest way."""
+    return ", ".join(f"`{name}`" + (f" {LEVELS[name]} times" if name in LEVELS else "") for name, _ in path[1:])
+
+
+def calls_table(stack, calls, measured):
+    """The table of the calls, each with what goes over the stack as arguments, where that is known. Answers what is wrong."""
+    wrong = []
+    row(["call", "its frame", "with all below", "arguments", "in all", "written on the board", "deepest way"])
+    row(["---"] + ["---:"] * 5 + ["---"])
+    for name, passed in calls:
         need = stack.of(stack.listing.starts[name])
-        passed = arguments(header, name)
-        way = ", ".join(f"`{inner}`" for inner, _ in need.path[1:])
-        cells = [need.frame, need.depth, passed, need.depth + passed] + ([measured[name]] if measured else [])
-        row([f"`{name}`"] + [number(cell) for cell in cells] + [way])
-        fine = fine and need.depth + passed <= BOUND and measured.get(name, 0) <= need.depth
-    return fine
+        whole = need.depth + (passed or 0)
+        cells = [need.frame, need.depth, passed, None if passed is None else whole, measured.get(name)]
+        row([f"`{name}`"] + ["-" if cell is None else f"{cell:,}" for cell in cells] + [way_of(need.path)])
+        if whole > BOUND and name != NO_CALL:
+            wrong.append(f"{name} needs more than {BOUND:,} bytes")
+        if measured.get(name, 0) > need.depth:
+            wrong.append(f"{name} wrote more than is worked out")
+    return wrong
 
 
-def inner_frames(stack, report):
-    """The table of the library's largest frames. Answers whether each is the compiler's own."""
-    print("\n| function | frame | with all below |\n|---|---:|---:|")
-    fine = True
+def frames_table(stack, report):
+    """The table of the largest frames below the calls. Answers which is not the compiler's own."""
+    wrong = []
+    print()
+    row(["function", "frame", "with all below"])
+    row(["---", "---:", "---:"])
     for name, size in sorted(report.items(), key=lambda entry: -entry[1]):
         need = stack.of(stack.listing.starts[name])
-        fine = fine and need.frame == size
-        if size >= 64 and not name.startswith("badge_"):
-            row([f"`{name}`", number(size), number(need.depth)])
-    print(f"\n{len(report)} functions; each frame is {'' if fine else 'not '}the one of the compiler's report")
-    return fine
+        if need.frame != size:
+            wrong.append(f"{name} has a frame of {need.frame:,}, and in the compiler's report one of {size:,}")
+        if size >= 64 and "::" in name:
+            row([f"`{name}`", f"{size:,}", f"{need.depth:,}"])
+    print(f"\n{len(report)} functions, {len(report) - len(wrong)} of them with the frame that the compiler reports")
+    return wrong
 
 
-def main(program, report, header, measured=None):
-    listed = subprocess.run(["arm-none-eabi-objdump", "-d", program], capture_output=True, text=True, check=True)
+def fields(path, separator):
+    """The fields of a file's lines."""
+    if path is None:
+        return []
+    with open(path, encoding="utf-8") as file:
+        return [line.rstrip("\n").split(separator) for line in file]
+
+
+def main():
+    parser = argparse.ArgumentParser()
+    parser.add_argument("--header")
+    parser.add_argument("--board")
+    parser.add_argument("program")
+    parser.add_argument("report")
+    parser.add_argument("names", nargs="*")
+    given = parser.parse_args()
+    listed = subprocess.run(["arm-none-eabi-objdump", "-d", given.program], capture_output=True, text=True, check=True)
     stack = Stack(Listing(listed.stdout))
-    with open(header, encoding="utf-8") as file:
-        declared = re.sub(r"/\*.*?\*/", "", file.read(), flags=re.S)
-    with open(report, encoding="utf-8") as file:
-        sizes = {(fields := line.split("\t"))[0].split(":", 1)[1]: int(fields[1]) for line in file}
-    written = {}
-    if measured:
-        with open(measured, encoding="utf-8") as file:
-            written = {(fields := line.split())[0]: int(fields[1]) for line in file}
-    within = public_calls(stack, declared, written)
-    same = inner_frames(stack, sizes)
-    if not within or not same:
-        raise SystemExit(f"a call needs more than {number(BOUND)} bytes, or wrote more than it needs, or a frame is another")
+    calls = [(name, None) for name in given.names]
+    if given.header:
+        with open(given.header, encoding="utf-8") as file:
+            header = re.sub(r"/\*.*?\*/", "", file.read(), flags=re.S)
+        calls += [(name, arguments(header, name)) for name in re.findall(r"\b(badge_\w+)\(", header)]
+    # A line of the report is the file and the function with a colon between them, and the frame.
+    report = {place.split(":", 1)[1]: int(size) for place, size, _ in fields(given.report, "\t")}
+    measured = {name: int(most) for name, most, _ in fields(given.board, " ")}
+    wrong = calls_table(stack, calls, measured) + frames_table(stack, report)
+    if wrong:
+        raise SystemExit("\n".join(wrong))
 
 
-main(*sys.argv[1:])
+main()

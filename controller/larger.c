@@ -96,8 +96,8 @@ static size_t cells_of(uint32_t kind)
 static void quantize(uint32_t shift, uint32_t kind, size_t entries)
 {
     make_rubbish();
-    number(badge_quantize_pixels(shift, kind, SIDE, SIDE, TABLES, palette, 4 * entries, pixels, 4 * PIXELS, indices, PIXELS, out,
-                                 4 * PIXELS, cells, cells_of(kind)),
+    number(badge_quantize_pixels(shift, kind, SIDE, SIDE, TABLES, palette, 4 * entries, pixels, 4 * PIXELS, indices, PIXELS,
+                                 out, 4 * PIXELS, cells, cells_of(kind)),
            BADGE_ACCEPTED);
     keep(indices, sizeof indices);
     keep(out, sizeof out);
@@ -198,8 +198,10 @@ static void look_up(uint8_t r, uint8_t g, uint8_t b, uint64_t width)
 
 static void look_up_all(void)
 {
-    for (unsigned turn = 0; turn < 6; turn++)
-        look_up(random_byte(), random_byte(), random_byte(), turn % 2 == 0 ? 16 : 1);
+    for (unsigned turn = 0; turn < 6; turn++) {
+        uint8_t r = random_byte(), g = random_byte(), b = random_byte();
+        look_up(r, g, b, turn % 2 == 0 ? 16 : 1);
+    }
     tell("lookups_65536");
 }
 

@@ -1,7 +1,7 @@
 # Read by the run script: has the LLVM module of a proved library written, which the toolchain compiles into its archive. The
-# toolchain's `rattle build` makes the module of a crate that is proved, and of no other, and hands it to the clang of the folder
-# that --toolchain names. Here this is a folder whose clang keeps a copy of the module before it does what clang does. The script
-# sets `built`, where things are built, first.
+# toolchain's `rattle build` makes the module of a crate that is proved, and of no other, and hands it to the clang of the
+# folder that --toolchain names. Here this is a folder whose clang keeps a copy of the module before it does what clang does.
+# The script sets `built`, where things are built, first.
 
 # Sets `kit` to the toolchain that rt is of, `own` to its part for this machine, and `clang` to its compiler.
 find_kit() {

@@ -1,7 +1,7 @@
 /*
  * The recorded cases, one function a call of the C interface. A case has what the call is lent and what the original answered,
- * as crates/cases and crates/picture_cases have it. The answer is made the same tokens and compared with the recorded ones, byte
- * for byte; where a call refuses, what is behind a pointer has to be as it was. All answers are kept, too.
+ * as crates/cases and crates/picture_cases have it. The answer is made the same tokens and compared with the recorded ones,
+ * byte for byte; where a call refuses, what is behind a pointer has to be as it was. All answers are kept, too.
  */
 #include <string.h>
 
@@ -281,11 +281,13 @@ static const struct {
     {'c', 12, 8, candidate_colors_in},
     {'q', 15, 11, quantize_pixels},
     {'x', 25, 18, dither_to_mode},
-    /* The cases of the lookups over records are those of the flat ones, which answer them here. */
+    /* The cases of the lookups over records have the form of the flat ones, which answer them here. */
     {'N', 6, 4, nearest},
     {'M', 8, 5, nearest_two},
     {'B', 9, 5, ordered_bracket},
 };
+
+const char *const records_by = ", by the flat lookup";
 
 Verdict replay(uint8_t letter)
 {

@@ -1,12 +1,12 @@
-# Read by the run script: compiles the lookups over records as functions of their own, for C to call. The crate `records`
-# exports nothing, and a lookup that is called from one place alone is compiled into its caller. So a repository is made below
-# target/ that has a second crate which calls them, a copy of `record_cases` under another name, and a crate that exports a way
-# to both. All of it is proved. The script sets `root`, the repository's root, and `built`, where things are built, first.
+# Read by the run scripts here and in controller/: compiles the lookups over records as functions of their own, for C to call.
+# The crate `records` exports nothing, and a lookup that is called from one place alone is compiled into its caller. So a
+# repository is made below target/ that has a second crate which calls them, a copy of `record_cases` under another name, and
+# a crate that exports a way to both. All of it is proved. The script sets `root`, the repository's root, and `built`, where
+# things are built, first.
 
-# Sets `lookups` to the archive.
-build_lookups() {
+# Sets `made` to the repository.
+prove_lookups() {
     need rt "the Rattle toolchain's command"
-    need objcopy "binutils"
     made=$built/records
     rm -rf "$made"
     mkdir -p "$made/target"
@@ -32,7 +32,12 @@ END
         >>"$made/crates.txt"
     (cd "$made" && rt staticlib record_stack) >"$built/records.log" 2>&1 \
         || die "the lookups were not compiled: $built/records.log"
+}
 
+# Sets `lookups` to the archive.
+build_lookups() {
+    need objcopy "binutils"
+    prove_lookups
     lookups=$built/librecords.a
     set --
     for name in nearest nearest_two ordered_bracket; do
