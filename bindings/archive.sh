@@ -1,5 +1,5 @@
-# Read by the run scripts of bindings/, fuzz/, formats/ and cli/, and by badge: finds the archive, and has it built where it is
-# missing or older than its sources. They set `root` first, the repository's root.
+# Read by the run scripts of bindings/, fuzz/, formats/, controller/ and cli/, and by badge: finds the archive, and has it built
+# where it is missing or older than its sources. They set `root` first, the repository's root.
 
 own=$root/target/staticlib/libexports.a
 

@@ -2,9 +2,11 @@
  * Measures the stack that each call takes on the board. The program is linked with --wrap for each call of the interface, so
  * that it comes here first. What is below the stack pointer is painted, the call is made with the arguments as they are, and
  * the lowest word that has changed says how deep it wrote, counted from the stack pointer at its entry. Nothing here uses the
- * stack. The paint is another at every call, so that what looks like paint once does not twice.
+ * stack. Two paints take turns, so that what looks like one does not look like the other.
  */
 #include "calls.h"
+
+    .equ    PAINT, 0xa5a5a5a5
 
     .syntax unified
     .thumb
@@ -14,10 +16,11 @@
     .thumb_func
 paint:
     ldr     r4, =stack_floor
-    ldr     r6, =pattern
+    ldr     r6, =turn
     ldr     r5, [r6]
     mvn     r5, r5
     str     r5, [r6]
+    eor     r5, #PAINT
     mov     r7, sp
 1:  cmp     r4, r7
     it      hs
@@ -29,8 +32,9 @@ paint:
     .thumb_func
 measured:
     ldr     r1, =stack_floor
-    ldr     r3, =pattern
+    ldr     r3, =turn
     ldr     r3, [r3]
+    eor     r3, #PAINT
     mov     lr, sp
 2:  cmp     r1, lr
     beq     3f
@@ -77,7 +81,7 @@ EACH_CALL(WAY)
     .balign 4
 registers:
     .space  20
-pattern:
+turn:
     .space  4
     .global stack_most
 stack_most:
