@@ -9,8 +9,12 @@
 #include <stddef.h>
 #include <stdint.h>
 
+/* The bounds of document 02's third request: a lookup takes 1 KiB at most, any other call 16 KiB. */
+enum { LOOKUP = 1024, CALL = 16384 };
+
 typedef struct {
     const char *name;
+    size_t bound;
     void (*call)(void);
     void (*over)(bool by_steps); /* measures the call over inputs of every path, small ones where it goes by steps */
 } Measured;

@@ -261,22 +261,22 @@ static void over_sides(bool by_steps)
 }
 
 const Measured measured[] = {
-    {"badge_to_oklab", call_to_oklab, over_colors},
-    {"badge_oklab_sqdist", call_oklab_sqdist, over_components},
-    {"badge_ordered_threshold", call_ordered_threshold, over_kinds},
-    {"badge_bracket_width", call_bracket_width, over_kinds},
-    {"badge_lerp", call_lerp, over_colors},
-    {"badge_nearest", call_nearest, over_lists},
-    {"badge_nearest_two", call_nearest_two, over_lists},
-    {"badge_ordered_bracket", call_ordered_bracket, over_lists},
-    {"badge_pick", call_pick, over_kinds},
-    {"badge_candidate_colors_in", call_candidate_colors_in, over_rooms},
-    {"badge_quantize_pixels", call_quantize_pixels, over_palettes},
-    {"badge_dither_to_mode", call_dither_to_mode, over_modes},
-    {"badge_pam_size", call_pam_size, over_files},
-    {"badge_read_pam", call_read_pam, over_files},
-    {"badge_pam_length", call_pam_length, over_sides},
-    {"badge_write_pam", call_write_pam, over_sides},
+    {"badge_to_oklab", CALL, call_to_oklab, over_colors},
+    {"badge_oklab_sqdist", CALL, call_oklab_sqdist, over_components},
+    {"badge_ordered_threshold", CALL, call_ordered_threshold, over_kinds},
+    {"badge_bracket_width", CALL, call_bracket_width, over_kinds},
+    {"badge_lerp", CALL, call_lerp, over_colors},
+    {"badge_nearest", LOOKUP, call_nearest, over_lists},
+    {"badge_nearest_two", LOOKUP, call_nearest_two, over_lists},
+    {"badge_ordered_bracket", LOOKUP, call_ordered_bracket, over_lists},
+    {"badge_pick", CALL, call_pick, over_kinds},
+    {"badge_candidate_colors_in", CALL, call_candidate_colors_in, over_rooms},
+    {"badge_quantize_pixels", CALL, call_quantize_pixels, over_palettes},
+    {"badge_dither_to_mode", CALL, call_dither_to_mode, over_modes},
+    {"badge_pam_size", CALL, call_pam_size, over_files},
+    {"badge_read_pam", CALL, call_read_pam, over_files},
+    {"badge_pam_length", CALL, call_pam_length, over_sides},
+    {"badge_write_pam", CALL, call_write_pam, over_sides},
 };
 
 const size_t measured_count = sizeof measured / sizeof measured[0];

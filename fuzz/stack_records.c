@@ -165,9 +165,9 @@ void make_inputs(void)
 }
 
 const Measured measured[] = {
-    {"records::nearest", call_nearest, over_lists},
-    {"records::nearest_two", call_nearest_two, over_lists},
-    {"records::ordered_bracket", call_ordered_bracket, over_lists},
+    {"records::nearest", LOOKUP, call_nearest, over_lists},
+    {"records::nearest_two", LOOKUP, call_nearest_two, over_lists},
+    {"records::ordered_bracket", LOOKUP, call_ordered_bracket, over_lists},
 };
 
 const size_t measured_count = sizeof measured / sizeof measured[0];
