@@ -142,8 +142,9 @@ fn start(asked: Asked, number: u8, next: usize) -> Search
 pub fn begin(asked: Asked) -> Search
     ensures { λ s. ⌜ ((list : List Rec) (kept : Keeps) → Asks list asked → Empty kept → (t : ℕ) × Wants list asked t s kept) ⌝ }
 {
-    if !count_fits(asked.len) {
-        return start(asked, 4, asked.len);
+    let len = asked.len;
+    if !count_fits(len) {
+        return start(asked, 4, len);
     }
     start(asked, 0, 0)
 }
