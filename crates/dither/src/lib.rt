@@ -11,6 +11,7 @@ ghost use lib.ListN.{length, replicate};
 ghost use lib.Ieee.{ofBits, binary32};
 ghost use Rattle.replies.specs.Replies.{firstReply};
 ghost use Rattle.drawing.specs.Lent.{reducedBytes, cellsAfter};
+ghost use Rattle.drawing.specs.Turns.{Linear};
 ghost use Rattle.dither.specs.Mode.{commission, buffers, dithering, boundsWrong, lengthsWrong, budgetWrong, checks, DitheredToMode};
 ghost use Rattle.dither.specs.Steps.{Fitting, Roomed, Completes};
 
@@ -98,9 +99,10 @@ fn refusal(s: Settings, lengths: Lengths) -> u8
 // ---- choosing
 
 // Chooses every pixel's colour among the candidates at the front of the rooms, into `out` as reduced bytes. No public
-// call: the caller sees to all lengths and to the candidates.
+// call: the caller sees to the linear table, to all lengths and to the candidates.
 fn choose(
     s: Settings,
+    linear: &[u64; 256],
     reduction: &[u8],
     scale: &[u8],
     pixels: &[u8],
@@ -111,7 +113,7 @@ fn choose(
     cells: &mut [f32],
 )
     requires { ⌜ (let q = commission s (now reduction) (now scale) (now pixels) in
-        Fitting q (now out) (now cells) × Roomed q (now places) (now oklab) count) ⌝ }
+        Linear (now linear) × Fitting q (now out) (now cells) × Roomed q (now places) (now oklab) count) ⌝ }
     ensures { λ _. ⌜ (let d = dithering (commission s (now (reduction .entry)) (now (scale .entry)) (now (pixels .entry))) in
         (now (out .exit) ≡ reducedBytes d) × (now (cells .exit) ≡ cellsAfter d (now (cells .entry)))) ⌝ }
 {
@@ -128,6 +130,7 @@ fn choose(
     let floats = &oklab[..3 * count];
     ditherer.draw(
         zero,
+        linear,
         reduction,
         scale,
         pixels,
@@ -150,10 +153,11 @@ fn wipe(out: &mut [u8], cells: &mut [f32])
     lists::zero_floats(cells);
 }
 
-// Dithers a picture that is accepted so far and whose candidates are collected. No public call: the caller sees to all
-// lengths and to the candidates.
+// Dithers a picture that is accepted so far and whose candidates are collected. No public call: the caller sees to the
+// linear table, to all lengths and to the candidates.
 fn dither(
     s: Settings,
+    linear: &[u64; 256],
     reduction: &[u8],
     scale: &[u8],
     pixels: &[u8],
@@ -164,12 +168,13 @@ fn dither(
     cells: &mut [f32],
 ) -> Dithered
     requires { ⌜ (let q = commission s (now reduction) (now scale) (now pixels) in
-        Fitting q (now out) (now cells) × Roomed q (now places) (now oklab) count × (count ≤ 65536)) ⌝ }
+        Linear (now linear) × Fitting q (now out) (now cells) × Roomed q (now places) (now oklab) count × (count ≤ 65536)) ⌝ }
     ensures { λ r. ⌜ Completes (commission s (now (reduction .entry)) (now (scale .entry)) (now (pixels .entry))) (now (out .entry)) (now (cells .entry))
         r (now (out .exit)) (now (cells .exit)) ⌝ }
 {
     choose(
         s,
+        linear,
         reduction,
         scale,
         pixels,
@@ -233,7 +238,9 @@ pub fn dither_to_mode(
         return Dithered::Refused(number);
     }
     let size = settings.width as usize * settings.height as usize;
+    let linear = conversion::linear::linear_table();
     let Collected::Count(count) = candidates::collect_candidates(
+        &linear,
         reduction,
         scale,
         pixels,
@@ -245,6 +252,7 @@ pub fn dither_to_mode(
     };
     dither(
         settings,
+        &linear,
         reduction,
         scale,
         pixels,

@@ -364,6 +364,7 @@ impl Ditherer {
     pub fn draw(
         self,
         zero: ColorZero,
+        linear: &[u64; 256],
         reduction: &[u8],
         scale: &[u8],
         pixels: &[u8],
@@ -373,19 +374,18 @@ impl Ditherer {
         out: &mut [u8],
         cells: &mut [f32],
     )
-        requires { ⌜ Ready self zero (lent (now reduction) (now scale) (now pixels) (now colors) (now oklab) count)
+        requires { ⌜ Linear (now linear) × Ready self zero (lent (now reduction) (now scale) (now pixels) (now colors) (now oklab) count)
             × (length (now out) ≡ 4 * (self .width * self .height))
             × (isDiffusion (self .kind) ≡ true → length (now cells) ≡ 3 * (self .width * self .height)) ⌝ }
         ensures { λ _. ⌜ (let d = drawingOf self zero
             (lent (now (reduction .entry)) (now (scale .entry)) (now (pixels .entry)) (now (colors .entry)) (now (oklab .entry)) count) in
             (now (out .exit) ≡ reducedBytes d) × (now (cells .exit) ≡ cellsAfter d (now (cells .entry)))) ⌝ }
     {
-        let linear = conversion::linear::linear_table();
         let mut memory = [0u64; MEMORY];
         if patterns::is_diffusion(self.kind) {
             self.draw_diffused(
                 zero,
-                &linear,
+                linear,
                 reduction,
                 scale,
                 pixels,
@@ -399,7 +399,7 @@ impl Ditherer {
         } else {
             self.draw_each(
                 zero,
-                &linear,
+                linear,
                 reduction,
                 scale,
                 pixels,

@@ -173,6 +173,7 @@ fn quantize(
     let oklab = &room[..3 * count];
     ditherer.draw(
         ColorZero::Absent,
+        &linear,
         reduction,
         scale,
         pixels,

@@ -25,7 +25,7 @@ same : (c : tie.After-draw-arg2)
     drawingOf (dithererOf (s .args .s) (c .before .before .before .before .width-of .result)) (s .args .s .zero)
     (lentOf (asked s) (take (4 * n) (s .args .places .now)) (take (3 * n) (s .args .oklab .now)) n)
     ≡ dithering (asked s)
-same c = same-picture (asked (start c)) (start c .pre .1) _ (c .before .before .before .before .width-of .ensures)
+same c = same-picture (asked (start c)) (start c .pre .2) _ (c .before .before .before .before .width-of .ensures)
 
 cast-width-of : tie.Need-cast-width-of
 cast-width-of c = search needs
@@ -48,11 +48,11 @@ slice-aggregate-floats c = simp length-take (omega arith)
 draw-requires : tie.Need-draw-requires
 draw-requires c κs =
     let s = start c in
-    let f = s .pre .0 in
+    let f = s .pre .1 in
     let read = c .before .before .before .before .before .before .before .before .before .before .before in
     let reduces : (k : ℕ) → getD (s .args .reduction .now) k 0 < 256 = λ k. omega (arith, read .before .shared-slice-known .given k) in
     let scales : (k : ℕ) → getD (s .args .scale .now) k 0 < 256 = λ k. omega (arith, read .shared-slice-known2 .given k) in
-    (ready (asked s) (s .pre .1) f (c .before .before .before .before .width-of .result) reduces scales, f .out-long, f .cells-long)
+    (s .pre .0, ready (asked s) (s .pre .2) f (c .before .before .before .before .width-of .result) reduces scales, f .out-long, f .cells-long)
 
 same-length : tie.Need-same-length
 same-length c = search needs

@@ -26,7 +26,7 @@ judged : (c : tie.After-judge) → c .judge .result ≡ verdict (asked (start (c
 judged c =
     let k = c .before .before .before .before .before .before in
     let s = start k in
-    c .judge .ensures ∙ judged-bytes (asked s) _ (at (asked s) (s .pre .0) _ (k .choose .ensures .0))
+    c .judge .ensures ∙ judged-bytes (asked s) _ (at (asked s) (s .pre .1) _ (k .choose .ensures .0))
 
 choose-requires : tie.Need-choose-requires
 choose-requires c κs = search needs
@@ -35,10 +35,10 @@ judge-requires : tie.Need-judge-requires
 judge-requires c κs =
     let k = c .before .before .before .before .before in
     let s = start k in
-    judgeable (asked s) (s .pre .0) _ (k .choose .ensures .0)
+    judgeable (asked s) (s .pre .1) _ (k .choose .ensures .0)
 
 cast-counted : tie.Need-cast-counted
-cast-counted c = let h = start (c .before .before .before .before .before .before) .pre .2 in omega arith
+cast-counted c = let h = start (c .before .before .before .before .before .before) .pre .3 in omega arith
 
 enum-known-verdict : tie.Need-enum-known-verdict
 enum-known-verdict c = search needs
@@ -58,10 +58,10 @@ returns c =
     let j = c .before .before .before .before .before .before .before .before .before .before in
     let k = c .before .before .before .before .before .before .before .before .before .before .before .before .before .before .before .before in
     let s = start k in
-    let out : length (k .choose .last .1 .1 .1 .1 .1 .1 .1 .0) ≡ length (s .args .out .now) = omega arith in
-    let cells : length (k .choose .last .1 .1 .1 .1 .1 .1 .1 .1 .0) ≡ length (s .args .cells .now) = omega arith in
+    let out : length (k .choose .last .1 .1 .1 .1 .1 .1 .1 .1 .0) ≡ length (s .args .out .now) = omega arith in
+    let cells : length (k .choose .last .1 .1 .1 .1 .1 .1 .1 .1 .1 .0) ≡ length (s .args .cells .now) = omega arith in
     let over = c .before .before .before .before .before .before .before .before .verdict .given .1 in
-    completed-over (asked s) (s .pre .1 .counted) _ (judged-over (asked s) (judged j) _ over)
+    completed-over (asked s) (s .pre .2 .counted) _ (judged-over (asked s) (judged j) _ over)
     (w .0 ∙ ap (λ (n : ℕ). replicate n 0) out) (w .1 ∙ ap (λ (n : ℕ). replicate n (ofBits binary32 0)) cells)
 
 enum-told : tie.Need-enum-told
@@ -74,13 +74,13 @@ cast-size-2 : tie.Need-cast-size-2
 cast-size-2 c = search needs
 
 mul-size : tie.Need-mul-size
-mul-size c = let h = start (c .before .before .before .before .before .before .before .before .before .before) .pre .0 .small in omega arith
+mul-size c = let h = start (c .before .before .before .before .before .before .before .before .before .before) .pre .1 .small in omega arith
 
 finish-requires : tie.Need-finish-requires
 finish-requires c κs =
     let k = c .before .before .before .before .before .before .before .before .before .before .before in
     let s = start k in
-    finishable (asked s) (s .pre .0) _ (k .choose .ensures .0)
+    finishable (asked s) (s .pre .1) _ (k .choose .ensures .0)
 
 same-length-3 : tie.Need-same-length-3
 same-length-3 c = search needs
@@ -94,7 +94,7 @@ returns-2 c =
     let j = c .before .before .before .before .before .before .before .before in
     let k = c .before .before .before .before .before .before .before .before .before .before .before .before .before .before in
     let s = start k in
-    completed (asked s) (s .pre .1 .counted) (judged-fits (asked s) (judged j) (t .enum-told .given .1))
+    completed (asked s) (s .pre .2 .counted) (judged-fits (asked s) (judged j) (t .enum-told .given .1))
     (c .before .before .finish .ensures ∙ finished-all (dithering (asked s)) _ (k .choose .ensures .0)) (k .choose .ensures .1)
 
 pub dither-spec : {M : Type 1} → statement M

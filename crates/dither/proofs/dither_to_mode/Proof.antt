@@ -47,12 +47,15 @@ mul-size c =
     let h = accepted (asked (start e)) (held (start e)) (free e) .small in
     omega arith
 
+linear-table-requires : tie.Need-linear-table-requires
+linear-table-requires c κs = search needs
+
 collect-candidates-requires : tie.Need-collect-candidates-requires
 collect-candidates-requires c κs =
-    let e = c .before .before .before .before in
+    let e = c .before .before .before .before .before .before in
     let w = accepted (asked (start e)) (held (start e)) (free e) in
     let r = room (asked (start e)) (held (start e)) (free e) in
-    (w .reduction, w .scale, omega (arith, w .pixels), omega (arith, r .1))
+    (c .before .before .before .linear-table .ensures, w .reduction, w .scale, omega (arith, w .pixels), omega (arith, r .1))
 
 enum-known-count : tie.Need-enum-known-count
 enum-known-count c = search needs
@@ -68,19 +71,23 @@ same-length-2 c = search needs
 
 returns-2 : tie.Need-returns-2
 returns-2 c =
-    let e = c .before .before .before .before .before .before .before .before .before .before .before in
+    let e = c .before .before .before .before .before .before .before .before .before .before .before .before .before in
     let s = start e in
     let u = uncollected (c .before .before .before .before .before .before .collect-candidates .ensures) (c .enum-told .given .1) in
     call-full (asked s) (held s) (free e) (u .0) (u .1) (u .2)
 
 dither-requires : tie.Need-dither-requires
 dither-requires c κs =
-    let k = c .before .before .before .before .before .before .before .before .before .before .before .collect-candidates .ensures in
-    let n = c .before .before .before .before .before .count .given .1 in
-    let e = c .before .before .before .before .before .before .before .before .before .before .before .before .before .before .before .before in
+    let k = c .before .before .before .before .before .before .before .before .before .before .before .before .collect-candidates .ensures in
+    let n = c .before .before .before .before .before .before .count .given .1 in
+    let e = c .before .before .before .before .before .before .before .before .before .before .before .before .before .before .before .before .before .before .before in
     let s = start e in
-    let r = room (asked s) (held s) (free e) in
-    (accepted (asked s) (held s) (free e), roomed (asked s) k n (r .1), omega (arith, r .0, count-within {cs = candidateList (asked s)} k n))
+    let r = room (asked s) (held s) (free e) in (
+      record { is = c .before .before .before .before .before .before .before .before .before .before .before .before .before .before .before .before .linear-table .ensures },
+      accepted (asked s) (held s) (free e),
+      roomed (asked s) k n (r .1),
+      omega (arith, r .0, count-within {cs = candidateList (asked s)} k n),
+    )
 
 same-length-3 : tie.Need-same-length-3
 same-length-3 c = search needs
@@ -98,10 +105,10 @@ returns-3 : tie.Need-returns-3
 returns-3 c =
     let d = c .before .before .before .before in
     let a = d .before in
-    let e = a .before .before .before .before .before .before .before .before .before .before .before .before .before .before .before .before in
+    let e = a .before .before .before .before .before .before .before .before .before .before .before .before .before .before .before .before .before .before .before in
     let s = start e in
-    let k = a .before .before .before .before .before .before .before .before .before .before .before .collect-candidates .ensures in
-    let u = collected k _ (a .before .before .before .before .before .count .given .1) in
+    let k = a .before .before .before .before .before .before .before .before .before .before .before .before .collect-candidates .ensures in
+    let u = collected k _ (a .before .before .before .before .before .before .count .given .1) in
     call-completed (asked s) (held s) (free e) (u .0) (u .2) (u .3) (d .dither .ensures)
 
 pub dither-to-mode-spec : {M : Type 1} → statement M
@@ -113,6 +120,7 @@ dither-to-mode-spec =
     cast-size
     cast-size-2
     mul-size
+    linear-table-requires
     collect-candidates-requires
     enum-known-count
     enum-told

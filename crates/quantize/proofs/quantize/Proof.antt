@@ -42,18 +42,18 @@ fit c =
 
 -- where the drawing is called
 abbrev listed : tie.After-draw-arg2 → tie.After-put-list-oklab
-listed c = c .before .before .before .before .before .before
+listed c = c .before .before .before .before .before .before .before
 
 -- the picture that is drawn is the one that is promised
 same-picture : (c : tie.After-draw-arg2) → let q = asked (began (listed c)) in
-    drawingOf (dithererOf q (c .before .before .before .width-of .result)) Absent
+    drawingOf (dithererOf q (c .before .before .before .before .width-of .result)) Absent
     (lentOf q (take (3 * entries q) (listed c .put-list-oklab .last .1 .1 .1 .1 .0)))
     ≡ quantizing q
 same-picture c =
     let q = asked (began (listed c)) in
-    λ t. drawingOf (dithererOf q (c .before .before .before .width-of .ensures t)) Absent (lentOf q (front (listed c) t))
+    λ t. drawingOf (dithererOf q (c .before .before .before .before .width-of .ensures t)) Absent (lentOf q (front (listed c) t))
 
-drawn-over : (c : tie.After-draw) → c .draw .last .1 .1 .1 .1 .1 .1 .1 .1 .0 ≡ reducedBytes (quantizing (asked (began (listed (c .before)))))
+drawn-over : (c : tie.After-draw) → c .draw .last .1 .1 .1 .1 .1 .1 .1 .1 .1 .0 ≡ reducedBytes (quantizing (asked (began (listed (c .before)))))
 drawn-over c = c .draw .ensures .0 ∙ ap reducedBytes (same-picture (c .before))
 
 linear-table-requires : tie.Need-linear-table-requires
@@ -81,8 +81,12 @@ draw-requires : tie.Need-draw-requires
 draw-requires c κs =
     let s = began (listed c) in
     let a = s .args in
-    let f = s .pre .0 in
-    (ready (asked s) (a .indices .now) (a .out .now) (a .cells .now) f (fit (listed c)) _ _ (front (listed c)), f .out, f .cells)
+    let f = s .pre .0 in (
+      record { is = listed c .before .before .before .linear-table .ensures },
+      ready (asked s) (a .indices .now) (a .out .now) (a .cells .now) f (fit (listed c)) _ _ (front (listed c)),
+      f .out,
+      f .cells,
+    )
 
 mul-size : tie.Need-mul-size
 mul-size c = search needs

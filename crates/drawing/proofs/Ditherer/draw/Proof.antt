@@ -13,7 +13,7 @@ use Rattle.drawing.proofs.Ditherer.draw.Tie as tie
 
 -- where the kind is asked, and what was answered
 abbrev start : tie.After-is-diffusion → tie.Start
-start c = c .before .before .before .before .before .before .before .before .before
+start c = c .before .before .before .before .before .before .before .before
 
 kind-is : (c : tie.After-is-diffusion) (t : Bool) → c .is-diffusion .result ≡ t → isDiffusion (start c .args .self .kind) ≡ t
 kind-is c t e = sym (c .is-diffusion .ensures) ∙ e
@@ -24,25 +24,22 @@ picture s =
     let a = s .args in
     drawingOf (a .self) (a .zero) (lent (a .reduction .now) (a .scale .now) (a .pixels .now) (a .colors .now) (a .oklab .now) (a .count))
 
-linear-table-requires : tie.Need-linear-table-requires
-linear-table-requires c κs = search needs
-
 is-diffusion-requires : tie.Need-is-diffusion-requires
 is-diffusion-requires c κs = search needs
 
 draw-diffused-requires : tie.Need-draw-diffused-requires
 draw-diffused-requires c κs =
-    let k = c .before .before .before .before .before in
+    let k = c .before .before .before .before in
     let p = start k .pre in
-    let d = kind-is k _ (c .before .before .before .before .if1 .taken) in
-    (record { is = k .before .linear-table .ensures }, p .0, d, p .1, p .2 d, table-none _)
+    let d = kind-is k _ (c .before .before .before .if1 .taken) in
+    (p .0, p .1, d, p .2, p .3 d, table-none _)
 
 draw-each-requires : tie.Need-draw-each-requires
 draw-each-requires c κs =
-    let k = c .before .before .before .before in
+    let k = c .before .before .before in
     let p = start k .pre in
-    let e = kind-is k _ (c .before .before .before .if1 .left) in
-    (record { is = k .before .linear-table .ensures }, p .0, e, p .1, remembers-none (start k .args .self) _)
+    let e = kind-is k _ (c .before .before .if1 .left) in
+    (p .0, p .1, e, p .2, remembers-none (start k .args .self) _)
 
 same-length : tie.Need-same-length
 same-length c = search needs
@@ -52,23 +49,22 @@ same-length-2 c = search needs
 
 returns : tie.Need-returns
 returns c =
-    let k = c .before .before .before .before .before .before .before .before .before .before in
+    let k = c .before .before .before .before .before .before .before .before .before in
     let e = c .before .before .before .before .draw-diffused .ensures in
-    (e .0, turn-end (picture (start k)) (kind-is k _ (c .before .before .before .before .before .before .before .before .before .if1 .taken)) _ _ (e .1))
+    (e .0, turn-end (picture (start k)) (kind-is k _ (c .before .before .before .before .before .before .before .before .if1 .taken)) _ _ (e .1))
 
 same-length-3 : tie.Need-same-length-3
 same-length-3 c = search needs
 
 returns-2 : tie.Need-returns-2
 returns-2 c =
-    let k = c .before .before .before .before .before .before .before in
-    (c .before .before .draw-each .ensures, turn-none _ (kind-is k _ (c .before .before .before .before .before .before .if1 .left)) _)
+    let k = c .before .before .before .before .before .before in
+    (c .before .before .draw-each .ensures, turn-none _ (kind-is k _ (c .before .before .before .before .before .if1 .left)) _)
 
 pub draw-spec : {M : Type 1} → statement M
 draw-spec =
     tie.close
     (tie.spec
-    linear-table-requires
     is-diffusion-requires
     draw-diffused-requires
     draw-each-requires
