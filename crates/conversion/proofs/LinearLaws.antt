@@ -9,6 +9,7 @@ use native.Mathlib.Omega.{arith}
 use lib.ListN.{length, getD}
 use lib.Dec.{T, eqb, ltb, leb, eqb→eq, ltb→lt, leb→le}
 use lib.Ieee.Fits.{and-l, and-r}
+use Rattle.lists.specs.Gather.{gather}
 use Rattle.lists.proofs.Computed.{each}
 use Rattle.conversion.specs.Linear.{isNearest, isLinear, values, linearOf, valueIn, inRests}
 
@@ -23,6 +24,16 @@ small k h = leb→le (linearOf k) 100000000 (each (λ k. leb (linearOf k) 100000
 
 pub value-small : (k x : ℕ) → x ≡ linearOf k → k < 256 → x ≤ 100000000
 value-small k x e h = rw e (small k h)
+
+-- ---- a list that is the table
+pub entry : (l : List ℕ) (k : ℕ) → l ≡ values → getD l k 0 ≡ linearOf k
+unfolding linearOf
+entry l k e = ap (λ (l : List ℕ). getD l k 0) e
+
+-- the table, value by value
+pub all-values : (l : List ℕ) → l ≡ gather 256 (λ k. linearOf k ∷ []) → l ≡ values
+unfolding linearOf gather
+all-values l e = e
 
 -- ---- one value alone: of two nearest numbers neither is above the other
 nearest-le : (e d x t u : ℕ) → T (isNearest e d x t) → T (isNearest e d x u) → t ≤ u

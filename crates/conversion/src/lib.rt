@@ -115,7 +115,7 @@ fn linear_to_oklab(r: u64, g: u64, b: u64) -> Oklab
 }
 
 // From a colour, by the table of linear values that is lent. No public call: the caller sees to the table.
-pub fn to_oklab_with(linear: &[u64; 256], c: NormalizedColor) -> Oklab
+pub fn to_oklab_with(linear: &[u32; 256], c: NormalizedColor) -> Oklab
     requires { ⌜ now linear ≡ values ⌝ }
     ensures { λ o. ⌜ o ≡ toOklab c ⌝ }
 {

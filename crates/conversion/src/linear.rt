@@ -1,6 +1,6 @@
 // The linear value of each byte, scaled by 10^8 (IEC 61966-2-1).
 ghost use mathlib.Core.Path.{_≡_};
-ghost use Prim.Native.Nat.{_+_, _*_};
+ghost use Prim.Native.Nat.{_+_, _*_, _<_};
 ghost use lib.Dec.{T};
 ghost use lib.ListN.{length};
 ghost use Rattle.conversion.specs.Linear.{values, linearOf, curveOf, inRests};
@@ -271,19 +271,43 @@ const LINEAR: [u64; 256] = [
     100000000,
 ];
 
-// The table. A constant array is written out anew wherever it is named, so a caller makes it once and lends it.
-pub fn linear_table() -> [u64; 256]
+// Value k in 32 bits, in which each has room.
+fn narrow(all: &[u64; 256], k: usize) -> u32
+    requires { ⌜ (now all ≡ values) × (k < 256) ⌝ }
+    ensures { λ x. ⌜ x ≡ linearOf k ⌝ }
+{
+    all[k] as u32
+}
+
+// The values in 32 bits each.
+fn narrowed(all: &[u64; 256]) -> [u32; 256]
+    requires { ⌜ now all ≡ values ⌝ }
     ensures { λ t. ⌜ t ≡ values ⌝ }
 {
-    LINEAR
+    let mut t = [0u32; 256];
+    let mut k: usize = 0;
+    while k < 256 {
+        t[k] = narrow(all, k);
+        k += 1;
+    }
+    t
+}
+
+// The table, in 32 bits a value: half the stack of a call that has it. A constant array is written out anew wherever it is
+// named, so a caller makes the table once and lends it.
+pub fn linear_table() -> [u32; 256]
+    ensures { λ t. ⌜ t ≡ values ⌝ }
+{
+    let all = LINEAR;
+    narrowed(&all)
 }
 
 // The linear value of byte k, by the table that is lent. No public call: the caller sees to the table.
-pub(crate) fn linear_at(t: &[u64; 256], k: u8) -> u64
+pub(crate) fn linear_at(t: &[u32; 256], k: u8) -> u64
     requires { ⌜ now t ≡ values ⌝ }
     ensures { λ x. ⌜ x ≡ linearOf k ⌝ }
 {
-    t[k as usize]
+    t[k as usize] as u64
 }
 
 // A curve in whole numbers close below the linear values: what it leaves of a value, the rest, takes 16 bits. No polynomial of

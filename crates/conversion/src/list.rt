@@ -9,7 +9,7 @@ ghost use Rattle.conversion.specs.Linear.{values};
 ghost use Rattle.conversion.specs.Lists.{oklabFloats, oklabOver};
 
 // The Oklab colour of colour i, by its full precision form.
-fn put_color_oklab(linear: &[u64; 256], scale: &[u8], colors: &[u8], i: usize, oklab: &mut [f32])
+fn put_color_oklab(linear: &[u32; 256], scale: &[u8], colors: &[u8], i: usize, oklab: &mut [f32])
     requires { ⌜ (now linear ≡ values) × (length (now scale) ≡ 256) × (4 * i + 3 < length (now colors)) × (3 * i + 2 < length (now oklab)) ⌝ }
     ensures { λ _. ⌜ now (oklab .exit) ≡ sets (now (oklab .entry)) (3 * i) (oklabFloats (now (scale .entry)) (reducedAt (now (colors .entry))) i) ⌝ }
 {
@@ -21,7 +21,7 @@ fn put_color_oklab(linear: &[u64; 256], scale: &[u8], colors: &[u8], i: usize, o
 // Writes the Oklab colours of the first colours to the front of a lent buffer; what is after them stays. No public call: the
 // caller sees to the tables and the lengths.
 pub fn put_list_oklab(
-    linear: &[u64; 256],
+    linear: &[u32; 256],
     scale: &[u8],
     colors: &[u8],
     count: usize,

@@ -102,7 +102,7 @@ fn refusal(s: Settings, lengths: Lengths) -> u8
 // call: the caller sees to the linear table, to all lengths and to the candidates.
 fn choose(
     s: Settings,
-    linear: &[u64; 256],
+    linear: &[u32; 256],
     reduction: &[u8],
     scale: &[u8],
     pixels: &[u8],
@@ -157,7 +157,7 @@ fn wipe(out: &mut [u8], cells: &mut [f32])
 // linear table, to all lengths and to the candidates.
 fn dither(
     s: Settings,
-    linear: &[u64; 256],
+    linear: &[u32; 256],
     reduction: &[u8],
     scale: &[u8],
     pixels: &[u8],

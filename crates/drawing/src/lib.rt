@@ -61,7 +61,7 @@ fn is_skipped(zero: ColorZero, c: ReducedColor) -> bool
 
 // The reduced colour of the nearest candidate. No public call: the caller sees to the table, the candidates and the memory.
 fn nearest_color(
-    linear: &[u64; 256],
+    linear: &[u32; 256],
     colors: &[u8],
     scale: &[u8],
     oklab: &[f32],
@@ -115,7 +115,7 @@ impl Ditherer {
     // pixel and the kind.
     fn ordered_color_at(
         self,
-        linear: &[u64; 256],
+        linear: &[u32; 256],
         colors: &[u8],
         scale: &[u8],
         oklab: &[f32],
@@ -151,7 +151,7 @@ impl Ditherer {
     // candidates and the pixel.
     fn color_at(
         self,
-        linear: &[u64; 256],
+        linear: &[u32; 256],
         colors: &[u8],
         scale: &[u8],
         oklab: &[f32],
@@ -176,7 +176,7 @@ impl Ditherer {
     // passed on. No public call: the caller sees to the table, the candidates, the pixel, the kind and the cells.
     fn diffusion_color_at(
         self,
-        linear: &[u64; 256],
+        linear: &[u32; 256],
         colors: &[u8],
         scale: &[u8],
         oklab: &[f32],
@@ -217,7 +217,7 @@ impl Ditherer {
     fn pixel_color(
         self,
         zero: ColorZero,
-        linear: &[u64; 256],
+        linear: &[u32; 256],
         reduction: &[u8],
         scale: &[u8],
         pixels: &[u8],
@@ -246,7 +246,7 @@ impl Ditherer {
     fn diffused_pixel(
         self,
         zero: ColorZero,
-        linear: &[u64; 256],
+        linear: &[u32; 256],
         reduction: &[u8],
         scale: &[u8],
         pixels: &[u8],
@@ -279,7 +279,7 @@ impl Ditherer {
     fn draw_each(
         self,
         zero: ColorZero,
-        linear: &[u64; 256],
+        linear: &[u32; 256],
         reduction: &[u8],
         scale: &[u8],
         pixels: &[u8],
@@ -319,7 +319,7 @@ impl Ditherer {
     fn draw_diffused(
         self,
         zero: ColorZero,
-        linear: &[u64; 256],
+        linear: &[u32; 256],
         reduction: &[u8],
         scale: &[u8],
         pixels: &[u8],
@@ -364,7 +364,7 @@ impl Ditherer {
     pub fn draw(
         self,
         zero: ColorZero,
-        linear: &[u64; 256],
+        linear: &[u32; 256],
         reduction: &[u8],
         scale: &[u8],
         pixels: &[u8],

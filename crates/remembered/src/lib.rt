@@ -151,7 +151,7 @@ fn note_last(memory: &mut [u64; MEMORY], k: usize)
 
 // The nearest entry, worked out.
 fn nearest_anew(
-    linear: &[u64; 256],
+    linear: &[u32; 256],
     oklab: &[f32],
     count: usize,
     color: NormalizedColor,
@@ -166,7 +166,7 @@ fn nearest_anew(
 
 // The position of the nearest entry. No public call: the caller sees to the table of linear values, the list and the memory.
 pub fn nearest_position(
-    linear: &[u64; 256],
+    linear: &[u32; 256],
     oklab: &[f32],
     count: usize,
     color: NormalizedColor,
@@ -194,7 +194,7 @@ pub fn nearest_position(
 
 // The nearest entry and the second, worked out, but for the shortlist where that is remembered.
 fn pair_anew(
-    linear: &[u64; 256],
+    linear: &[u32; 256],
     oklab: &[f32],
     colors: &[u8],
     scale: &[u8],
@@ -222,7 +222,7 @@ fn pair_anew(
 // The positions of the nearest entry and the second. No public call: the caller sees to the table of linear values, lengths,
 // count, range and the memory.
 fn pair_positions(
-    linear: &[u64; 256],
+    linear: &[u32; 256],
     oklab: &[f32],
     colors: &[u8],
     scale: &[u8],
@@ -260,7 +260,7 @@ fn pair_positions(
 // The positions of the bracket for a colour, and its ratio. No public call: the caller sees to the table of linear values,
 // lengths, count, range and the memory.
 pub fn bracket_positions(
-    linear: &[u64; 256],
+    linear: &[u32; 256],
     oklab: &[f32],
     colors: &[u8],
     scale: &[u8],

@@ -1,10 +1,7 @@
 -- `conversion::linear::linear_at` meets its contract: the table that is lent is the table. Assumes nothing.
-use mathlib.Core.Path.{ap}
-use mathlib.Core.List.{List}
-use Prim.Native.Nat.{ℕ}
-use lib.ListN.{getD}
+use native.Mathlib.Omega.{arith}
 use borrow.Author.Needs.{needs}
-use Rattle.conversion.specs.Linear.{linearOf}
+use Rattle.conversion.proofs.LinearLaws.{entry, value-small}
 use Rattle.conversion.proofs.linear.linear_at.Statement.{statement}
 use Rattle.conversion.proofs.linear.linear_at.Tie as tie
 
@@ -14,9 +11,13 @@ mul-result c = search needs
 element-copy-out-result : tie.Need-element-copy-out-result
 element-copy-out-result c = search needs
 
+cast-result : tie.Need-cast-result
+cast-result c =
+    let k = c .before .args .k in
+    omega (arith, value-small k _ (entry _ k (c .before .pre)) (omega arith))
+
 returns : tie.Need-returns
-unfolding linearOf
-returns c = ap (λ (l : List ℕ). getD l (c .before .args .k) 0) (c .before .pre)
+returns c = entry _ _ (c .before .pre)
 
 pub linear-at-spec : {M : Type 1} → statement M
-linear-at-spec = tie.close (tie.spec mul-result element-copy-out-result returns)
+linear-at-spec = tie.close (tie.spec mul-result element-copy-out-result cast-result returns)
