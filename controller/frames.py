@@ -208,7 +208,7 @@ def calls_table(stack, calls, measured):
         whole = need.depth + (passed or 0)
         cells = [need.frame, need.depth, passed, None if passed is None else whole, measured.get(name)]
         row([f"`{name}`"] + ["-" if cell is None else f"{cell:,}" for cell in cells] + [way_of(need.path)])
-        bound = LOOKUP_BOUND if re.sub("^(badge_|records::)", "", name) in LOOKUPS else BOUND
+        bound = LOOKUP_BOUND if re.sub("^(badge|records)_", "", name) in LOOKUPS else BOUND
         if whole > bound and name != NO_CALL:
             wrong.append(f"{name} needs more than {bound:,} bytes")
         if measured.get(name, 0) > need.depth:

@@ -1,7 +1,7 @@
 /*
  * The three lookups over a slice of candidate records, and what each is measured over: lists of none to 65,537 records, one
  * with a component out of range, widths of 1 and 16. See stack.h. They are no part of the C interface: records.sh has them
- * compiled and gives them names that C can call. How they take arguments and answer is the compiler's own affair, so each
+ * compiled and gives them names that C can call. How they take arguments and answer is the toolchain's own affair, so each
  * answer is first held to that of the lookup over flat lists.
  */
 #include "stack.h"
@@ -40,9 +40,9 @@ typedef struct {
     } bracket;
 } FoundBracket;
 
-void records_nearest(Found *found, const Records *list, uint32_t color);
-void records_nearest_two(Found *found, uint32_t color, const Records *list, uint64_t width);
-void records_ordered_bracket(FoundBracket *found, uint32_t color, const Records *list, uint64_t width);
+void records_nearest(Found *found, const Records *list, const uint8_t *color);
+void records_nearest_two(Found *found, const uint8_t *color, const Records *list, uint64_t width);
+void records_ordered_bracket(FoundBracket *found, const uint8_t *color, const Records *list, uint64_t width);
 
 /* ---- what is lent: the same list as records and flat */
 
@@ -52,7 +52,7 @@ static float oklab[3 * (ENTRIES + 1)];
 
 static struct {
     Records list;
-    uint32_t color;
+    uint8_t color[4];
     uint64_t width;
 } now;
 
@@ -90,7 +90,7 @@ static void same(bool holds, const char *what)
 static void check_answers(bool by_steps)
 {
     (void)by_steps;
-    uint8_t r = (uint8_t)now.color, g = (uint8_t)(now.color >> 8), b = (uint8_t)(now.color >> 16), dark[4], light[4];
+    uint8_t r = now.color[0], g = now.color[1], b = now.color[2], dark[4], light[4];
     uint32_t first = 0, second = 0, number;
     float ratio = 0.0f;
 
@@ -129,11 +129,13 @@ static void set_component(size_t k, float value)
 static void over(bool by_steps, void (*act)(bool by_steps))
 {
     static const size_t lengths[] = {0, 1, 2, 40, 300, ENTRIES, ENTRIES + 1};
-    static const uint32_t some[] = {0, 0xffffff, 1, 0xff0000, 0x631ec8, 0x808080};
+    static const uint8_t some[6][4] = {
+        {0, 0, 0, 255}, {255, 255, 255, 255}, {1, 0, 0, 255}, {0, 0, 255, 255}, {200, 30, 99, 255}, {128, 128, 128, 255},
+    };
     for (size_t i = 0; i < (by_steps ? 4 : 7); i++)
         for (size_t k = 0; k < 6; k++) {
             now.list = (Records){records, lengths[i]};
-            now.color = some[k] | 0xff000000u;
+            memcpy(now.color, some[k], 4);
             now.width = k % 2 ? 16 : 1;
             act(by_steps);
         }

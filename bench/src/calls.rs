@@ -1,9 +1,8 @@
-//! The calls that are measured: for each the original and the port, ready to be
-//! run over the same picture again and again.
+//! The calls that are measured: for each the original and a port, ready to be run
+//! over the same colours or the same picture again and again.
 
 use std::hint::black_box;
 
-use oracle::archive::Archive;
 use oracle::case::{Candidates, Quantize, ToMode};
 use oracle::port::{Port, Rooms};
 
@@ -22,12 +21,27 @@ pub const ATKINSON: Kind = (9, Dither::Atkinson, "Atkinson");
 pub const FLOYD_STEINBERG: Kind = (10, Dither::FloydSteinberg, "Floyd-Steinberg");
 
 /// Cells lent for a kind: three a pixel for diffusion, else none.
-pub fn cells(kind: u32, count: usize) -> Vec<f32> {
+fn cells(kind: u32, count: usize) -> Vec<f32> {
     vec![0.0; if kind >= 9 { 3 * count } else { 0 }]
 }
 
+/// The conversion of each colour alone, by some way to convert one.
+pub fn convert(colors: &[[u8; 3]], conversion: &dyn Fn([u8; 3]) -> [f32; 3]) {
+    colors.iter().for_each(|&color| _ = black_box(conversion(color)));
+}
+
+/// A port's way; the original's is a stand-in, of which there are several.
+pub fn to_oklab<'a>(port: &'a impl Port, colors: &'a [[u8; 3]]) -> impl FnMut() + 'a {
+    let conversion = |color| {
+        let [mut l, mut a, mut b] = [0.0; 3];
+        port.to_oklab(color, [&mut l, &mut a, &mut b]);
+        [l, a, b]
+    };
+    move || convert(colors, &conversion)
+}
+
 pub fn quantize_pixels<'a>(
-    port: &'a Archive,
+    port: &'a impl Port,
     subject: &'a Subject,
     palette: &'a [u8],
     (kind, dither, _): Kind,
@@ -51,7 +65,7 @@ pub fn quantize_pixels<'a>(
 
 /// With tiles of 8x8 and limit 256, so that no tile is over it.
 pub fn dither_to_mode<'a>(
-    port: &'a Archive,
+    port: &'a impl Port,
     subject: &'a Subject,
     (kind, dither, _): Kind,
 ) -> (impl Fn() + 'a, impl FnMut() + 'a) {
@@ -73,7 +87,7 @@ pub fn dither_to_mode<'a>(
     (original, ported)
 }
 
-pub fn candidate_colors_in<'a>(port: &'a Archive, subject: &'a Subject) -> (impl Fn() + 'a, impl FnMut() + 'a) {
+pub fn candidate_colors_in<'a>(port: &'a impl Port, subject: &'a Subject) -> (impl Fn() + 'a, impl FnMut() + 'a) {
     let (found, image) = (subject.candidates(), subject.image());
     let original = move || {
         black_box(dither::candidate_colors_in(&image, Mode::Snes, ColorRounding::Truncate));

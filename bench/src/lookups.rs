@@ -1,27 +1,31 @@
-//! The lookups alone, over flat lists: for each the original and the port, asked
+//! The lookups alone, over flat lists: for each the original and a port, asked
 //! for the same colours again and again. The original has its records made
 //! beforehand, as within a picture; a call of the port looks whether its lists
 //! fit and are in range, each time.
 
 use std::hint::black_box;
 
-use oracle::archive::Archive;
 use oracle::case::{Call, List};
 use oracle::original::{Records, to_oklab};
 use oracle::port::{Lists, Port};
 use oracle::rng::Rng;
 
+use crate::cases::Row;
+
 /// The lookups, in the order of their rows.
 pub const CALLS: [Call; 3] = [Call::Nearest, Call::NearestTwo, Call::OrderedBracket];
+
+/// How long the lists are.
+pub const ENTRIES: [usize; 3] = [16, 256, 4096];
 
 /// The widest shortlist, as a palette of 256 entries has it.
 pub const WIDTH: u64 = 16;
 
 /// A list, and the colours that are looked up in it.
 pub struct Asked {
-    list: List,
+    pub list: List,
     records: Records,
-    colors: Vec<[u8; 3]>,
+    pub colors: Vec<[u8; 3]>,
 }
 
 impl Asked {
@@ -36,8 +40,11 @@ impl Asked {
         Asked { list: List { reduced, normalized, oklab }, records, colors }
     }
 
-    pub fn count(&self) -> usize {
-        self.colors.len()
+    /// The row of a lookup; `of` says what the list is of.
+    pub fn row(&self, call: Call, of: &str, runs: usize) -> Row {
+        let width = if call == Call::Nearest { String::new() } else { format!(", width {WIDTH}") };
+        let name = format!("lookup {}, {} {of}{width}", call.name(), self.list.reduced.len() / 4);
+        Row { call, name, count: self.colors.len(), runs }
     }
 
     fn original(&self, call: Call, color: [u8; 3]) {
@@ -48,7 +55,7 @@ impl Asked {
         }
     }
 
-    fn ported(&self, port: &Archive, call: Call, color: [u8; 3]) {
+    fn ported(&self, port: &impl Port, call: Call, color: [u8; 3]) {
         let List { reduced, normalized, oklab } = &self.list;
         let lists = Lists { reduced, normalized, oklab };
         let ([mut first, mut second], [mut dark, mut light], mut ratio) = ([0; 2], [[0; 4]; 2], 0.0);
@@ -61,8 +68,8 @@ impl Asked {
         black_box((first, second, dark, light, ratio));
     }
 
-    /// All colours, by the original and by the port.
-    pub fn both<'a>(&'a self, port: &'a Archive, call: Call) -> (impl Fn() + 'a, impl FnMut() + 'a) {
+    /// All colours, by the original and by a port.
+    pub fn both<'a>(&'a self, port: &'a impl Port, call: Call) -> (impl Fn() + 'a, impl FnMut() + 'a) {
         let original = move || self.colors.iter().for_each(|&color| self.original(call, color));
         let ported = move || self.colors.iter().for_each(|&color| self.ported(port, call, color));
         (original, ported)

@@ -2,7 +2,8 @@
 //!
 //!   bench [--quick] [--only TEXT]...
 //!   bench growth [--quick] [--to PATH]
-//!   bench before ARCHIVE [--quick]
+//!   bench before ARCHIVE [--quick] [--only TEXT]...
+//!   bench records BEFORE NOW [--quick] [--only TEXT]...
 //!
 //! The original here is the plain copy, with neither hooks nor probes. Only the
 //! lookups alone are asked of the other copy, since two of them are private; no
@@ -11,13 +12,19 @@
 //! 01's conversion worked out for each colour (`exact`), and with that remembered
 //! (`remembered`). Calls that the port lacks are left out by name. `growth` shows
 //! how time grows with pixels and with candidates, and draws it; `before` holds
-//! the port to an older archive of it.
+//! the port to an older archive of it, `records` one archive of the lookups over
+//! records to an older one.
 
 mod before;
+mod beside;
 mod calls;
+mod cases;
 mod growth;
+mod library;
+mod loaded;
 mod lookups;
 mod plot;
+mod records;
 mod rows;
 mod subject;
 mod timing;
@@ -29,11 +36,20 @@ use oracle::archive::Archive;
 // The original stands at this crate's root, where its own paths expect it.
 include!(concat!(env!("OUT_DIR"), "/plain.rs"));
 
+/// What is measured.
+#[derive(Default)]
+enum Way {
+    #[default]
+    Table,
+    Growth,
+    Before(String),
+    Records(String, String),
+}
+
 /// What the command asks for.
 #[derive(Default)]
 struct Options {
-    growth: bool,
-    before: Option<String>,
+    way: Way,
     quick: bool,
     only: Vec<String>,
     to: Option<String>,
@@ -43,10 +59,11 @@ fn options() -> Result<Options, String> {
     let mut options = Options::default();
     let mut words = std::env::args().skip(1);
     while let Some(word) = words.next() {
-        let mut after = || words.next().ok_or(format!("{word} wants a word after it"));
+        let mut after = || words.next().ok_or(format!("{word} wants another word after it"));
         match word.as_str() {
-            "growth" => options.growth = true,
-            "before" => options.before = Some(after()?),
+            "growth" => options.way = Way::Growth,
+            "before" => options.way = Way::Before(after()?),
+            "records" => options.way = Way::Records(after()?, after()?),
             "--quick" => options.quick = true,
             "--only" => options.only.push(after()?),
             "--to" => options.to = Some(after()?),
@@ -54,6 +71,14 @@ fn options() -> Result<Options, String> {
         }
     }
     Ok(options)
+}
+
+/// The table of all cases.
+fn tabulate(port: &Archive, quick: bool, only: Vec<String>) {
+    let (runs, large) = if quick { (3, 256) } else { (7, 1024) };
+    let mut table = rows::Table::new(port, runs, only);
+    table.fill(large);
+    table.close();
 }
 
 /// The tables of growth, and their drawing at a path.
@@ -64,18 +89,14 @@ fn grow(port: &Archive, quick: bool, path: &str) -> Result<(), String> {
     Ok(())
 }
 
-fn run(options: Options) -> Result<(), String> {
-    if let Some(archive) = options.before {
-        return before::rows(archive.as_ref(), &before::linked(), options.quick);
-    }
+fn run(Options { way, quick, only, to }: Options) -> Result<(), String> {
     let port = Archive::default();
-    if options.growth {
-        return grow(&port, options.quick, &options.to.unwrap_or("../docs/growth.png".into()));
+    match way {
+        Way::Table => tabulate(&port, quick, only),
+        Way::Growth => grow(&port, quick, &to.unwrap_or("../docs/growth.png".into()))?,
+        Way::Before(archive) => before::measure(archive.as_ref(), &before::linked(), only, quick)?,
+        Way::Records(before, now) => records::measure(before.as_ref(), now.as_ref(), only, quick)?,
     }
-    let (runs, large) = if options.quick { (3, 256) } else { (7, 1024) };
-    let mut table = rows::Table::new(&port, runs, options.only);
-    table.fill(large);
-    table.close();
     Ok(())
 }
 

@@ -132,6 +132,26 @@ impl Subject {
     }
 }
 
+/// The pictures that most tables draw, and the side of a large one.
+pub struct Pictures {
+    pub photo: Subject,
+    pub smooth: Subject,
+    pub few: Subject,
+    pub large: u32,
+}
+
+impl Pictures {
+    pub fn new(large: u32) -> Pictures {
+        Pictures { photo: Subject::photo(128, 96, 1), smooth: Subject::smooth(128), few: Subject::few(128, 12), large }
+    }
+}
+
+/// Random colours, for the conversion alone.
+pub fn colors() -> Vec<[u8; 3]> {
+    let mut rng = Rng::new(9);
+    (0..100_000).map(|_| [rng.byte(), rng.byte(), rng.byte()]).collect()
+}
+
 /// Random entries of five bits a channel.
 pub fn palette(entries: usize) -> Vec<u8> {
     let mut rng = Rng::new(3);

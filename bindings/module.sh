@@ -1,7 +1,7 @@
-# Read by the run script: has the LLVM module of a proved library written, which the toolchain compiles into its archive. The
-# toolchain's `rattle build` makes the module of a crate that is proved, and of no other, and hands it to the clang of the
-# folder that --toolchain names. Here this is a folder whose clang keeps a copy of the module before it does what clang does.
-# The script sets `built`, where things are built, first.
+# Read by the run scripts of controller/ and fuzz/: has the LLVM module of a proved library written, which the toolchain compiles
+# into its archive, and compiles modules. The toolchain's `rattle build` makes the module of a crate that is proved, and of no
+# other, and hands it to the clang of the folder that --toolchain names. Here this is a folder whose clang keeps a copy of the
+# module before it does what clang does. The scripts read archive.sh, and set `built`, where things are built, first.
 
 # Sets `kit` to the toolchain that rt is of, `own` to its part for this machine, and `clang` to its compiler.
 find_kit() {
@@ -49,4 +49,13 @@ write_module() {
         --antt-project "$kit/logic/antt-project.json" --logic-built "$own_kit/logic-built" \
         --toolchain "$tools" -o "${file%.bc}.a" >"${file%.bc}.log" 2>&1 || die "no module of $crate: ${file%.bc}.log"
     grep -q '^logic=proved' "${file%.bc}.log" && mv "$file.new" "$file" || die "no module of $crate: ${file%.bc}.log"
+}
+
+# compile MODULE TARGET OBJECT [WORD..]: by the toolchain's own clang, at the level that the archive is compiled at. Beside the
+# object stands what the compiler says of its frames.
+compile() {
+    module=$1 target=$2 object=$3
+    shift 3
+    "$clang" "--target=$target" -O3 -ffp-contract=off -fstack-usage "$@" -x ir -c "$module" -o "$object" 2>"$object.log" ||
+        die "no object: $object.log"
 }
