@@ -11,7 +11,8 @@
  * Buffers. A buffer is a pointer and, after it, a length (badge_length) that counts elements: bytes of a uint8_t buffer,
  * floats of a float buffer. The pointer may be null where the length is 0. A pointer to a single value is never null. What a
  * call writes must not overlap anything else of the same call; buffers that are only read (const) may share memory. Nothing
- * is kept after a call, no memory is allocated, and no call takes more than 16 KiB of stack.
+ * is kept after a call, and no memory is allocated. badge_nearest, badge_nearest_two and badge_ordered_bracket take at most
+ * 1 KiB of stack, other calls at most 16.
  *
  * Colours. A colour in a buffer is four bytes: red, green, blue, alpha. A reduced colour has a console's own precision, a
  * normalised one is the same colour from 0 to 255. An Oklab colour is three floats: lightness, a, b.

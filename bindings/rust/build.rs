@@ -2,14 +2,14 @@
 //! `BADGE_DITHER_LIB`, or the one that `rt staticlib exports` writes in the
 //! repository.
 
-use std::path::PathBuf;
-use std::{env, process};
+use std::path::{Path, PathBuf};
+use std::{env, fs, process};
 
 fn main() {
     println!("cargo::rerun-if-changed=build.rs");
     println!("cargo::rerun-if-env-changed=BADGE_DITHER_LIB");
-    check_target();
     let path = archive();
+    check_target(&path);
     println!("cargo::rerun-if-changed={}", path.display());
     let (Some(folder), Some(name)) = (path.parent(), path.file_name()) else {
         fail(&format!("{} names no file", path.display()));
@@ -24,12 +24,26 @@ fn fail(line: &str) -> ! {
     process::exit(1)
 }
 
-/// The archive holds code for one kind of machine.
-fn check_target() {
+/// The number of the machine that an archive holds code for, as its first ELF
+/// file has it.
+fn machine_of(archive: &[u8]) -> Option<u16> {
+    let elf = archive.windows(4).position(|word| word == b"\x7fELF")?;
+    Some(u16::from_le_bytes(archive.get(elf + 18..elf + 20)?.try_into().ok()?))
+}
+
+/// The archive holds code for one kind of machine: the toolchain's for x86-64,
+/// one that is named for any.
+fn check_target(path: &Path) {
     let of = |name| env::var(name).unwrap_or_default();
     let (arch, os) = (of("CARGO_CFG_TARGET_ARCH"), of("CARGO_CFG_TARGET_OS"));
-    if (arch.as_str(), os.as_str()) != ("x86_64", "linux") {
-        fail(&format!("the archive is for x86-64 Linux and cannot be linked for {arch} {os}"));
+    let wanted = match (arch.as_str(), os.as_str()) {
+        ("x86_64", "linux") => Some(62),
+        ("aarch64", "linux") => Some(183),
+        _ => None,
+    };
+    let found = fs::read(path).ok().and_then(|archive| machine_of(&archive));
+    if wanted.is_none() || found != wanted {
+        fail(&format!("{} is not for {arch} {os} (bindings/README.md has what another machine takes)", path.display()));
     }
 }
 
