@@ -11,7 +11,7 @@ use crate::calls;
 use crate::cases::{Cases, KINDS, Row};
 use crate::library::Library;
 use crate::loaded;
-use crate::subject::{Pictures, colors};
+use crate::subject::{Pictures, Subject, colors};
 
 /// The two archives, and the table that they fill.
 struct Archives<'a> {
@@ -38,10 +38,21 @@ impl Archives<'_> {
         self.table.row(row, [&mut before, &mut now]);
     }
 
+    /// Candidates by tables that keep every byte: of the original there is no such
+    /// mode, and a red has as many greens as there can be.
+    fn kept_row(&mut self, runs: usize) {
+        let subject = Subject::kept(256);
+        let found = subject.count();
+        let [mut before, mut now] = [self.before, self.now].map(|port| calls::collect(port, &subject, found));
+        let name = format!("candidate_colors_in 256x256 with every byte kept, {found} candidates");
+        self.table.row(Row { call: Call::CandidateColorsIn, name, count: found, runs }, [&mut before, &mut now]);
+    }
+
     /// All rows; those of thousands of candidates, which take long, in fewer runs.
     fn fill(&mut self, pictures: &Pictures, runs: usize, fewer: usize) {
         self.conversion_row(runs);
         self.common_rows(pictures, runs);
+        self.kept_row(fewer);
         self.mode_rows(&pictures.photo, "128x128", &KINDS, fewer);
         self.mode_rows(&pictures.smooth, "128x128 smooth", &KINDS, runs);
         self.mode_rows(&pictures.few, "128x128 of 12 colours", &KINDS, runs);
@@ -54,7 +65,8 @@ pub fn measure(before: &Path, port: &Path, only: Vec<String>, quick: bool) -> Re
     let [before, now] = loaded::both(before, port, Library::of)?;
     let (runs, fewer, large) = if quick { (21, 3, 256) } else { (101, 31, 1024) };
     let pictures = Pictures::new(large);
-    let told = format!("{runs} runs, of {fewer} in dither_to_mode with {} candidates", pictures.photo.candidates());
+    let told =
+        format!("{runs} runs, of {fewer} with thousands of candidates in dither_to_mode and with every byte kept");
     Archives { before: &before, now: &now, table: Beside::new(&told, only) }.fill(&pictures, runs, fewer);
     Ok(())
 }

@@ -88,15 +88,19 @@ pub fn dither_to_mode<'a>(
 }
 
 pub fn candidate_colors_in<'a>(port: &'a impl Port, subject: &'a Subject) -> (impl Fn() + 'a, impl FnMut() + 'a) {
-    let (found, image) = (subject.candidates(), subject.image());
+    let image = subject.image();
     let original = move || {
         black_box(dither::candidate_colors_in(&image, Mode::Snes, ColorRounding::Truncate));
     };
+    (original, collect(port, subject, subject.candidates()))
+}
+
+/// A port's way, with places for just as many candidates as are found.
+pub fn collect<'a>(port: &'a impl Port, subject: &'a Subject, found: usize) -> impl FnMut() + 'a {
     let case = Candidates { shift: 3, width: subject.width, height: subject.height, ..Candidates::default() };
     let (mut places, mut oklab) = (vec![0; 4 * found], vec![0.0; 3 * found]);
-    let ported = move || {
+    move || {
         let number = port.candidate_colors_in(&case, subject.read(&[]), &mut places, &mut oklab, &mut 0);
         assert_eq!(number, 0);
-    };
-    (original, ported)
+    }
 }

@@ -88,6 +88,14 @@ impl Subject {
         Subject::new(side, side, pixels.collect())
     }
 
+    /// The same by tables that keep every byte, which none of the original's modes
+    /// has: up to 65,536 candidates, of every red, green and blue.
+    pub fn kept(side: u32) -> Subject {
+        let every: Vec<u8> = (0..=255).collect();
+        let tables = LentTables { reduction: every.clone(), scale: every };
+        Subject { tables, ..Subject::different(side) }
+    }
+
     /// A picture of 128x64 with no colour twice and just `count` candidates (a
     /// power of two from 16 to 8192), in no order.
     pub fn of_candidates(count: u32) -> Subject {
