@@ -1,7 +1,5 @@
 //! The processor's time, and medians of runs that take turns.
 
-use std::hint::black_box;
-
 /// Nanoseconds that the processor has spent on this process. Unlike the time on
 /// the wall it stands still while another process has the processor.
 #[cfg(all(target_os = "linux", target_pointer_width = "64"))]
@@ -37,27 +35,6 @@ fn now() -> f64 {
     START.get_or_init(Instant::now).elapsed().as_nanos() as f64
 }
 
-/// A run with the stack `N` bytes further down.
-#[inline(never)]
-fn below<const N: usize>(run: &mut dyn FnMut()) {
-    let room = [0u8; N];
-    black_box(&room);
-    run();
-    black_box(&room);
-}
-
-/// A run at one of the four places that a stack has in a line of the cache. Where
-/// structures are copied on it, the time may differ by half from one to another, and
-/// the system puts each process's stack somewhere else.
-fn placed(turn: usize, run: &mut dyn FnMut()) {
-    match turn % 4 {
-        0 => below::<16>(run),
-        1 => below::<32>(run),
-        2 => below::<48>(run),
-        _ => below::<64>(run),
-    }
-}
-
 /// The median times of some runs in turn, in nanoseconds, after one turn to warm
 /// up. They take turns so that a busy machine slows all of them.
 pub fn medians<F: FnMut()>(runs: usize, each: &mut [F]) -> Vec<f64> {
@@ -65,7 +42,7 @@ pub fn medians<F: FnMut()>(runs: usize, each: &mut [F]) -> Vec<f64> {
     for turn in 0..=runs {
         for (run, times) in each.iter_mut().zip(&mut times) {
             let start = now();
-            placed(turn, run);
+            run();
             if turn > 0 {
                 times.push(now() - start);
             }
