@@ -2,6 +2,7 @@
 pub mod Kept
 pub mod Candidates
 pub mod Marks
+pub mod Numbers
 pub mod Rooms
 pub mod Steps
 pub mod Calls

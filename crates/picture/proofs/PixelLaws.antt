@@ -27,10 +27,15 @@ module _ (reduction pixels : List ℕ) where
       go true e = absurd (clash e refl)
       go false e = refl
 
+  -- below whatever bounds the table's entries
+  pub reduced-below : {bound : ℕ} → ((v : ℕ) → getD reduction v 0 < bound) → (i : ℕ) → isSeen (reducedBy reduction pixels) i ≡ true
+      → (reducedBy reduction pixels i .0 .r < bound) × (reducedBy reduction pixels i .0 .g < bound) × (reducedBy reduction pixels i .0 .b < bound)
+  reduced-below entries i s = (rw (seen-is i s) (entries _), rw (seen-is i s) (entries _), rw (seen-is i s) (entries _))
+
   pub reduced-solid : ((v : ℕ) → getD reduction v 0 < 256) → Solid (reducedBy reduction pixels)
   reduced-solid bytes = record {
-    red = λ i s. rw (seen-is i s) (bytes _);
-    green = λ i s. rw (seen-is i s) (bytes _);
-    blue = λ i s. rw (seen-is i s) (bytes _);
+    red = λ i s. reduced-below bytes i s .0;
+    green = λ i s. reduced-below bytes i s .1;
+    blue = λ i s. reduced-below bytes i s .2;
     alpha = λ i s. ap (λ (c : ReducedColor). c .0 .a) (seen-is i s);
   }
