@@ -13,6 +13,7 @@ struct qemu_plugin_insn *qemu_plugin_tb_get_insn(const struct qemu_plugin_tb *, 
 const char *qemu_plugin_insn_symbol(const struct qemu_plugin_insn *);
 void qemu_plugin_register_vcpu_tb_trans_cb(uint64_t, void (*)(uint64_t, struct qemu_plugin_tb *));
 void qemu_plugin_register_vcpu_tb_exec_inline(struct qemu_plugin_tb *, int operation, void *, uint64_t);
+void qemu_plugin_register_vcpu_insn_exec_inline(struct qemu_plugin_insn *, int operation, void *, uint64_t);
 void qemu_plugin_register_atexit_cb(uint64_t, void (*)(uint64_t, void *), void *);
 
 int qemu_plugin_version = 1;
@@ -45,7 +46,11 @@ static void translated(uint64_t plugin, struct qemu_plugin_tb *block) {
     (void)plugin;
     const char *name = qemu_plugin_insn_symbol(qemu_plugin_tb_get_insn(block, 0));
     struct function *function = function_of(name ? name : "?");
-    qemu_plugin_register_vcpu_tb_exec_inline(block, add_to_word, &function->instructions, qemu_plugin_tb_n_insns(block));
+    // The last by itself: for x86-64 a block may name one that is not run, as it goes over the end of a page.
+    size_t others = qemu_plugin_tb_n_insns(block) - 1;
+    qemu_plugin_register_vcpu_tb_exec_inline(block, add_to_word, &function->instructions, others);
+    struct qemu_plugin_insn *last = qemu_plugin_tb_get_insn(block, others);
+    qemu_plugin_register_vcpu_insn_exec_inline(last, add_to_word, &function->instructions, 1);
 }
 
 static void ended(uint64_t plugin, void *nothing) {

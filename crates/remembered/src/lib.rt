@@ -182,7 +182,8 @@ pub fn nearest_position(
         return pair.first;
     }
     let seed = last_of(memory, count);
-    let k = nearest_anew(linear, oklab, count, color, seed);
+    let list = oklab; // copied here, and not where the function begins: a colour that is recalled needs no list
+    let k = nearest_anew(linear, list, count, color, seed);
     let pair = Two {
         first: k,
         second: Second::Nothing,
