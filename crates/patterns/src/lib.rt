@@ -35,35 +35,30 @@ pub enum Dither {
     FloydSteinberg,
 }
 
-// A kind's number is its place here.
-const KINDS: [Dither; 11] = [
-    Dither::Off,
-    Dither::Bayer2x2,
-    Dither::Bayer4x4,
-    Dither::Bayer8x8,
-    Dither::Checker,
-    Dither::StippleV,
-    Dither::StippleH,
-    Dither::LineV,
-    Dither::LineH,
-    Dither::Atkinson,
-    Dither::FloydSteinberg,
-];
-
 // What a number stands for.
 pub enum Kind {
     Known(Dither),
     Unknown,
 }
 
-// The kind with a number.
+// The kind with a number. No array of them: that would be laid out on the stack at each call.
 pub fn dither_of(kind: u32) -> Kind
     ensures { λ r. ⌜ r ≡ kindOf kind ⌝ }
 {
-    if kind <= 10 {
-        return Kind::Known(KINDS[kind as usize]);
+    match kind {
+        0 => Kind::Known(Dither::Off),
+        1 => Kind::Known(Dither::Bayer2x2),
+        2 => Kind::Known(Dither::Bayer4x4),
+        3 => Kind::Known(Dither::Bayer8x8),
+        4 => Kind::Known(Dither::Checker),
+        5 => Kind::Known(Dither::StippleV),
+        6 => Kind::Known(Dither::StippleH),
+        7 => Kind::Known(Dither::LineV),
+        8 => Kind::Known(Dither::LineH),
+        9 => Kind::Known(Dither::Atkinson),
+        10 => Kind::Known(Dither::FloydSteinberg),
+        _ => Kind::Unknown,
     }
-    Kind::Unknown
 }
 
 // Whether there is a kind with this number.

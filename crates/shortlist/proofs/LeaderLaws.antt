@@ -14,7 +14,7 @@ use lib.Ieee.{Float, lt}
 use Rattle.floats.specs.Bounds.{Upto}
 use Rattle.floats.proofs.Order.{Plain, upto-plain, lt-irreflexive, lt-asymmetric, nlt-trans, lt-nlt-trans, nlt-lt-trans}
 use Rattle.lists.specs.Least.{leastOf}
-use Rattle.lists.proofs.Bools.{holds, fails, and-split}
+use Rattle.lists.proofs.Bools.{holds, fails, is-false, and-split}
 use Rattle.lists.proofs.LeastLaws.{least-is, least-only}
 use Rattle.shortlist.specs.declared.near.Leader.{Leader}
 use Rattle.shortlist.specs.Nearest.{farther, lesserOf, Leads, Onward}
@@ -82,6 +82,11 @@ module _ (d : ℕ → Float) (reach : Float) where
       where
         never : k < leader .position → leader .position ≤ k → ⊥
         never l b = omega arith
+
+  -- the first entry leads itself
+  pub lead-on : (n : ℕ) (x : Float) → 0 < n → x ≡ d 0 → ((j : ℕ) → j < n → Upto 112 (d j)) → Leads d reach n 0 (record { position = 0; distance = x })
+      → Leads d reach n 1 (record { position = 0; distance = x })
+  lead-on n x h e u s = lead-left (record { position = 0; distance = x }) 0 x e (is-false (lt x x) (self x)) n (omega arith) u s
 
   -- m entries that are all farther than the leader or than the reach
   pub lead-past : (leader : Leader) (k m : ℕ) (limit : Float) (t : Bool) → limit ≡ lesserOf reach (leader .distance) → t ≡ farther d limit k m → t ≡ true

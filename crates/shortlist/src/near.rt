@@ -97,7 +97,7 @@ pub fn nearest_position(oklab: &[f32], count: usize, o: Oklab, seed: usize) -> u
         distance: d,
     };
     if count < 32 {
-        let short = leader_by_one(oklab, o, 0, count, start);
+        let short = leader_by_one(oklab, o, 1, count, start);
         return short.position;
     }
     let long = leader_of(oklab, count, o, seed, start);

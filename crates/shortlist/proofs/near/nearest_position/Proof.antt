@@ -7,7 +7,7 @@ use Rattle.color.specs.Oklab.{oklabAt}
 use Rattle.shortlist.specs.declared.near.Leader.{Leader}
 use Rattle.shortlist.specs.Nearest.{distances, nearestIn, Onward}
 use Rattle.shortlist.proofs.NearestLaws.{distances-upto}
-use Rattle.shortlist.proofs.LeaderLaws.{lead-begin, lead-end}
+use Rattle.shortlist.proofs.LeaderLaws.{lead-begin, lead-on, lead-end}
 use borrow.Author.Needs.{needs}
 use Rattle.shortlist.proofs.near.nearest_position.Statement.{statement}
 use Rattle.shortlist.proofs.near.nearest_position.Tie as tie
@@ -33,7 +33,8 @@ returns c =
     let s = c .before .before .before .before in
     let d = c .before .before .distance-to in
     let f = distances (s .args .o) (oklabAt (s .args .oklab .now)) in
-    nearest s (d .result) (d .ensures) 0 (omega (arith, s .pre .2)) (c .leader-by-one .result) (c .leader-by-one .ensures (f 0))
+    nearest s (d .result) (d .ensures) 0 (omega (arith, s .pre .2)) (c .leader-by-one .result)
+    (λ n h u l. c .leader-by-one .ensures (f 0) n h u (lead-on f (f 0) n (d .result) (omega arith) (d .ensures) u l))
 
 leader-of-requires : tie.Need-leader-of-requires
 leader-of-requires c κs = search needs
