@@ -18,9 +18,13 @@ lengthsFit reduced normalized oklab = eqb (reduced % 4) 0 && (eqb normalized red
 unfoldable pub countFits : ℕ → Bool
 countFits n = ltb 0 n && not (ltb 65536 n)
 
--- the first component that is not from -2 to 2; the length where all are
+-- component k is from -2 to 2
+abbrev pub insideAt : List Float → ℕ → Bool
+insideAt xs k = inRange (getD xs k nan)
+
+-- the first component that is not; the length where all are
 unfoldable pub firstOutside : List Float → ℕ
-firstOutside xs = firstThat (λ k. not (inRange (getD xs k nan))) (length xs)
+firstOutside xs = firstThat (λ k. not (insideAt xs k)) (length xs)
 
 -- the numbers of a list of reduced bytes, normalised bytes and Oklab floats, and when each applies
 abbrev pub listReplies : List ℕ → List ℕ → List Float → List Reply

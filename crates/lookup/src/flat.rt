@@ -88,7 +88,7 @@ pub fn two_of(
     ensures { λ r. ⌜ r ≡ nearestTwoOf (flat (now (reduced .entry)) (now (normalized .entry)) (now (oklab .entry))) width o color ⌝ }
 {
     let count = reduced.len() / 4;
-    let a = nearest_position(oklab, count, o, 0);
+    let a = nearest_position(oklab, count, o.l, o.a, o.b, 0);
     let mut positions = [0usize; 16];
     let mut far = [0.0f32; 16];
     let found = shortlist(oklab, count, a, width, &mut positions, &mut far);

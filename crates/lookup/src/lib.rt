@@ -154,7 +154,8 @@ pub fn flat_nearest(
     if refusal != 0 {
         return Found::Refused(refusal);
     }
-    Found::At(nearest_position(oklab, reduced.len() / 4, to_oklab(color), 0))
+    let o = to_oklab(color);
+    Found::At(nearest_position(oklab, reduced.len() / 4, o.l, o.a, o.b, 0))
 }
 
 // The positions of the nearest entry and of the second.

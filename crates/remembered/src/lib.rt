@@ -161,7 +161,7 @@ fn nearest_anew(
     ensures { λ k. ⌜ k ≡ nearestIn (oklabAt (now (oklab .entry))) count (toOklab color) ⌝ }
 {
     let o = to_oklab_with(linear, color);
-    shortlist::near::nearest_position(oklab, count, o, seed)
+    shortlist::near::nearest_position(oklab, count, o.l, o.a, o.b, seed)
 }
 
 // The position of the nearest entry. No public call: the caller sees to the table of linear values, the list and the memory.

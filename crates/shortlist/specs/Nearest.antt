@@ -1,10 +1,11 @@
 -- The nearest candidate. Definitions only.
 -- Written from document 01, "Choosing colours": "`nearest`: smallest distance, first of equals."
 use mathlib.Core.Path.{_≡_}
-use Prim.Native.Nat.{ℕ, zero, suc, _+_, _≤_, _<_}
-use mathlib.Core.Bool.{Bool, true, cond, not, _&&_}
+use Prim.Native.Nat.{ℕ, _≤_, _<_}
+use mathlib.Core.Bool.{Bool, cond, not}
 use lib.Dec.{T}
 use lib.Ieee.{Float, lt}
+use Rattle.lists.specs.First.{allPass}
 use Rattle.lists.specs.Least.{leastOf}
 use Rattle.floats.specs.Bounds.{Upto}
 use Rattle.color.specs.declared.Oklab.{Oklab}
@@ -26,13 +27,20 @@ nearestOf cs o = nearestIn (cs .oklab) (cs .count) o
 -- ---- how the code looks for it
 
 -- the n entries from k on are all farther than a limit
-unfoldable pub farther : (ℕ → Float) → Float → ℕ → ℕ → Bool
-farther d limit k zero = true
-farther d limit k (suc n) = farther d limit k n && lt limit (d (k + n))
+abbrev pub farther : (ℕ → Float) → Float → ℕ → ℕ → Bool
+farther d limit = allPass (λ j. lt limit (d j))
 
 -- the lesser of two, the first of equals
 unfoldable pub lesserOf : Float → Float → Float
 lesserOf a b = cond (lt b a) b a
+
+-- entry k with its distance
+abbrev pub entryAt : (ℕ → Float) → ℕ → Leader
+entryAt d k = record { position = k; distance = d k }
+
+-- the nearer of two, the first where they are as near
+unfoldable pub nearerOf : Leader → Leader → Leader
+nearerOf a b = cond (lt (b .distance) (a .distance)) b a
 
 -- of n entries the first i are seen. The leader, one of them or the very first, is as near as any of them that is not farther than the reach, and
 -- nearer than those of these that stand before it

@@ -1,58 +1,49 @@
--- `checks::first_outside` meets its contract. None of the components passed is outside. Assumes nothing.
-use mathlib.Core.Path.{sym, ap, _∙_}
-use mathlib.Core.Bool.{Bool, not}
-use mathlib.Core.List.{List}
-use Prim.Native.Nat.{ℕ, _-_}
-use lib.ListN.{length, getD}
-use lib.Ieee.{Float, nan}
-use Rattle.lists.proofs.FirstLaws.{Searching, search-begin, search-next, search-found, search-missed}
-use Rattle.color.specs.Oklab.{inRange}
-use Rattle.lookup.specs.Lists.{firstOutside}
+-- `checks::first_outside` meets its contract. All of the components passed are inside. Assumes nothing.
+use Prim.Native.Nat.{ℕ, _-_, _≤_, _<_}
+use mathlib.Core.Path.{sym, _∙_}
+use native.Mathlib.Omega.{arith}
+use native.Mathlib.Nat.{not-suc-le-zero}
+use lib.Dec.{T}
+use lib.ListN.{length}
+use Rattle.lists.proofs.FirstLaws.{split-at, pass-all}
+use Rattle.lookup.specs.Lists.{insideAt}
 use borrow.Author.Needs.{needs}
 use Rattle.lookup.proofs.checks.first_outside.Statement.{statement}
 use Rattle.lookup.proofs.checks.first_outside.Tie as tie
 
-abbrev outside : List Float → ℕ → Bool
-outside xs k = not (inRange (getD xs k nan))
-
 abbrev Inv-loop : tie.InvT-loop
-Inv-loop oklab i₀ i = Searching (outside oklab) (length oklab) i
+Inv-loop oklab i₀ i = (i ≤ length oklab) × ((k : ℕ) → k < i → T (insideAt oklab k))
 
 abbrev μ-loop : tie.MeasureT-loop
 μ-loop oklab i₀ i = length oklab - i
 
 loop-holds : tie.Need-loop-holds Inv-loop μ-loop
-loop-holds c = search-begin (outside (c .before .args .oklab .now)) (length (c .before .args .oklab .now))
+loop-holds c = (omega arith, λ k h. absurd (not-suc-le-zero h))
 
-mul-in-range : tie.Need-mul-in-range Inv-loop μ-loop
-mul-in-range c = search needs
+sub-loop : tie.Need-sub-loop Inv-loop μ-loop
+sub-loop c = c .loop .inv .0
 
-shared-slice-read-in-range : tie.Need-shared-slice-read-in-range Inv-loop μ-loop
-shared-slice-read-in-range c = search needs
-
-in-range-requires : tie.Need-in-range-requires Inv-loop μ-loop
-in-range-requires c κs = search needs
-
-returns : tie.Need-returns Inv-loop μ-loop
-unfolding firstOutside
-returns c =
-    search-found (c .before .before .before .before .loop .inv) (c .before .before .before .loop-test .taken)
-    (ap not (sym (c .before .in-range .ensures)) ∙ c .if1 .taken)
+eight-in-range-requires : tie.Need-eight-in-range-requires Inv-loop μ-loop
+eight-in-range-requires c κs = search needs
 
 add-i : tie.Need-add-i Inv-loop μ-loop
 add-i c = search needs
 
 loop-less : tie.Need-loop-less Inv-loop μ-loop
-loop-less c = search needs
+loop-less c = omega arith
 
 loop-again : tie.Need-loop-again Inv-loop μ-loop
 loop-again c =
-    search-next (c .before .before .before .before .loop .inv) (c .before .before .before .loop-test .taken)
-    (ap not (sym (c .before .in-range .ensures)) ∙ c .if1 .left)
+    let l = c .before .before .before .loop in
+    let e = c .before .eight-in-range in
+    let xs = c .before .before .before .before .before .args .oklab .now in
+    (omega arith, λ k h. split-at k (l .i) (l .inv .1 k) (λ a. pass-all (insideAt xs) (l .i) 8 (sym (e .ensures) ∙ c .if1 .taken) k a h))
 
-returns-2 : tie.Need-returns-2 Inv-loop μ-loop
-unfolding firstOutside
-returns-2 c = search-missed (c .before .loop .inv) (c .loop-test .left)
+outside-from-requires : tie.Need-outside-from-requires Inv-loop μ-loop
+outside-from-requires c κs = c .before .loop .inv
+
+returns : tie.Need-returns Inv-loop μ-loop
+returns c = c .outside-from .ensures
 
 pub first-outside-spec : {M : Type 1} → statement M
 first-outside-spec =
@@ -61,11 +52,10 @@ first-outside-spec =
     Inv-loop
     μ-loop
     loop-holds
-    mul-in-range
-    shared-slice-read-in-range
-    in-range-requires
-    returns
+    sub-loop
+    eight-in-range-requires
     add-i
     loop-less
     loop-again
-    returns-2)
+    outside-from-requires
+    returns)

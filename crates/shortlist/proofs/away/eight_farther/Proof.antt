@@ -1,6 +1,6 @@
 -- `away::eight_farther` meets its contract: by what its eight calls ensure. Assumes nothing.
 use native.Mathlib.Nat.{add-zero}
-use Rattle.shortlist.specs.Nearest.{farther}
+use Rattle.lists.specs.First.{allPass}
 use borrow.Author.Needs.{needs}
 use Rattle.shortlist.proofs.away.eight_farther.Statement.{statement}
 use Rattle.shortlist.proofs.away.eight_farther.Tie as tie
@@ -51,7 +51,7 @@ distance-to-requires-8 : tie.Need-distance-to-requires-8
 distance-to-requires-8 c κs = search needs
 
 returns : tie.Need-returns
-unfolding farther
+unfolding allPass
 returns c =
     rw (
       add-zero,

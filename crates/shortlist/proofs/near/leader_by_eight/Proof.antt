@@ -19,16 +19,16 @@ returns c =
     let e = c .before .eight-farther in
     lead-past (distances (a .o) (oklabAt (a .oklab .now))) (a .reach) (a .leader) (a .k) 8 (l .result) (e .result) (l .ensures) (e .ensures) (c .if1 .taken)
 
-add-leader-by-one : tie.Need-add-leader-by-one
-add-leader-by-one c = search needs
+add-leader-between : tie.Need-add-leader-between
+add-leader-between c = search needs
 
-leader-by-one-requires : tie.Need-leader-by-one-requires
-leader-by-one-requires c κs = search needs
+leader-between-requires : tie.Need-leader-between-requires
+leader-between-requires c κs = search needs
 
 returns-2 : tie.Need-returns-2
-returns-2 c = c .leader-by-one .ensures (c .before .before .before .before .before .args .reach)
+returns-2 c = c .leader-between .ensures (c .before .before .before .before .before .args .reach)
 
 pub leader-by-eight-spec : {M : Type 1} → statement M
 leader-by-eight-spec =
     tie.close
-    (tie.spec lesser-requires eight-farther-requires returns add-leader-by-one leader-by-one-requires returns-2)
+    (tie.spec lesser-requires eight-farther-requires returns add-leader-between leader-between-requires returns-2)

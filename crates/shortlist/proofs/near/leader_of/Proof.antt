@@ -39,8 +39,8 @@ loop-again c =
     let l = c .before .before .loop in
     (omega arith, (λ n h u s. c .leader-by-eight .ensures n h u (l .inv .1 n (omega arith) u s)), l .inv .2)
 
-leader-by-one-requires : tie.Need-leader-by-one-requires Inv-loop μ-loop
-leader-by-one-requires c κs = search needs
+leader-between-requires : tie.Need-leader-between-requires Inv-loop μ-loop
+leader-between-requires c κs = search needs
 
 returns : tie.Need-returns Inv-loop μ-loop
 returns c =
@@ -48,8 +48,8 @@ returns c =
     let r = c .before .before .before .distance-to .result in
     let a = c .before .before .before .before .before .args in
     let d = distances (a .o) (oklabAt (a .oklab .now)) in
-    subst (λ (x : Float). Onward d x 0 (a .count) (a .start) (c .leader-by-one .result)) (l .inv .2)
-    (λ n h u s. c .leader-by-one .ensures r n h u (l .inv .1 n (omega arith) u s))
+    subst (λ (x : Float). Onward d x 0 (a .count) (a .start) (c .leader-between .result)) (l .inv .2)
+    (λ n h u s. c .leader-between .ensures r n h u (l .inv .1 n (omega arith) u s))
 
 pub leader-of-spec : {M : Type 1} → statement M
 leader-of-spec =
@@ -64,5 +64,5 @@ leader-of-spec =
     add-k
     loop-less
     loop-again
-    leader-by-one-requires
+    leader-between-requires
     returns)
