@@ -16,12 +16,14 @@ pub fn distance_to(oklab: &[f32], k: usize, o: Oklab) -> f32
     sqdist(o, oklab_at(oklab, k))
 }
 
-// Whether the eight entries from k on are all farther than a limit. No branch, so that the eight are worked out side by side.
-// No public call: the caller sees to the length.
-pub fn eight_farther(oklab: &[f32], k: usize, o: Oklab, limit: f32) -> bool
+// Whether the eight entries from k on are all farther than a limit from the colour l, a, b, which comes as three floats for
+// the reason that `near::nearest_position` gives. No branch, so that the eight are worked out side by side. No public call:
+// the caller sees to the length.
+pub fn eight_farther(oklab: &[f32], k: usize, l: f32, a: f32, b: f32, limit: f32) -> bool
     requires { ⌜ 3 * k + 23 < length (now oklab) ⌝ }
-    ensures { λ r. ⌜ r ≡ farther (distances o (oklabAt (now (oklab .entry)))) limit k 8 ⌝ }
+    ensures { λ r. ⌜ r ≡ farther (distances (record { l = l; a = a; b = b }) (oklabAt (now (oklab .entry)))) limit k 8 ⌝ }
 {
+    let o = Oklab { l: l, a: a, b: b };
     let d0 = distance_to(oklab, k, o);
     let d1 = distance_to(oklab, k + 1, o);
     let d2 = distance_to(oklab, k + 2, o);

@@ -83,7 +83,7 @@ fn leader_by_eight(oklab: &[f32], o: Oklab, reach: f32, k: usize, leader: Leader
     ensures { λ r. ⌜ Onward (distances o (oklabAt (now (oklab .entry)))) reach k (k + 8) leader r ⌝ }
 {
     let limit = lesser(reach, leader.distance);
-    if eight_farther(oklab, k, o, limit) {
+    if eight_farther(oklab, k, o.l, o.a, o.b, limit) {
         return leader;
     }
     leader_between(oklab, o, k, k + 8, leader)
