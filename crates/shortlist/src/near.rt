@@ -1,5 +1,6 @@
-// The nearest entry of a flat list of Oklab colours. A short list is searched by twos; a longer one eight entries at a time: eight that are all farther than the leader, or all farther than a seed, are passed over. Where the last search ended
-// is a good seed; it changes nothing but the time.
+// The nearest entry of a flat list of Oklab colours. A short list is searched by twos; a longer one eight entries at a time: eight
+// that are all farther than the leader, or all farther than a seed, are passed over. Where the last search ended is a good seed;
+// it changes nothing but the time.
 use super::away::distance_to;
 use super::away::eight_farther;
 use color::Oklab;

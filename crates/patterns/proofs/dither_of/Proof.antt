@@ -56,9 +56,10 @@ returns-11 c = arm 10 (omega arith) (c .match .keys11)
 
 returns-12 : tie.Need-returns-12
 returns-12 c =
-    let r = c .match .rest in
     let k = c .before .args .kind in
-    let five = past (past (past (past (past (past (least k) (r .0 .0 .0 .0 .0 .0 .0 .0 .0 .0 .1)) (r .0 .0 .0 .0 .0 .0 .0 .0 .0 .1)) (r .0 .0 .0 .0 .0 .0 .0 .0 .1)) (r .0 .0 .0 .0 .0 .0 .0 .1)) (r .0 .0 .0 .0 .0 .0 .1)) (r .0 .0 .0 .0 .0 .1) in
+    let r = c .match .rest in
+    let s = r .0 .0 .0 .0 .0 in
+    let five = past (past (past (past (past (past (least k) (s .0 .0 .0 .0 .0 .1)) (s .0 .0 .0 .0 .1)) (s .0 .0 .0 .1)) (s .0 .0 .1)) (s .0 .1)) (s .1) in
     sym (kind-above k (past (past (past (past (past five (r .0 .0 .0 .0 .1)) (r .0 .0 .0 .1)) (r .0 .0 .1)) (r .0 .1)) (r .1)))
 
 pub dither-of-spec : {M : Type 1} → statement M
