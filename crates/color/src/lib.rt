@@ -110,8 +110,8 @@ pub fn put_rgba(bytes: &mut [u8], i: usize, c: Rgba8888)
 
 // ---- the two crossings
 
-// The entry of a lent table for a byte.
-fn looked_up(table: &[u8], v: u8) -> u8
+// The entry of a lent table for a byte. No public call: the caller sees to the table's length.
+pub fn looked_up(table: &[u8], v: u8) -> u8
     requires { ⌜ length (now table) ≡ 256 ⌝ }
     ensures { λ r. ⌜ r ≡ getD (now (table .entry)) v 0 ⌝ }
 {

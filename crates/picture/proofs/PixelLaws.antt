@@ -1,5 +1,5 @@
 -- What is seen of a picture that is reduced through a table of bytes has alpha 255 and red, green and blue of the table. Assumes nothing.
-use mathlib.Core.Path.{_≡_, refl, ap}
+use mathlib.Core.Path.{_≡_, refl, sym, ap}
 use mathlib.Core.Bool.{Bool, true, false, not, cond}
 use mathlib.Core.List.{List}
 use Prim.Native.Nat.{ℕ, _<_}
@@ -26,6 +26,10 @@ module _ (reduction pixels : List ℕ) where
       go : (t : Bool) → not (isTransparent (cond t transparentReduced (opaque i) .0)) ≡ true → cond t transparentReduced (opaque i) ≡ opaque i
       go true e = absurd (clash e refl)
       go false e = refl
+
+  -- the red of what is seen
+  pub seen-red : (i : ℕ) → isSeen (reducedBy reduction pixels) i ≡ true → getD reduction (sourceAt pixels i .0 .r) 0 ≡ reducedBy reduction pixels i .0 .r
+  seen-red i s = sym (ap (λ (c : ReducedColor). c .0 .r) (seen-is i s))
 
   -- below whatever bounds the table's entries
   pub reduced-below : {bound : ℕ} → ((v : ℕ) → getD reduction v 0 < bound) → (i : ℕ) → isSeen (reducedBy reduction pixels) i ≡ true

@@ -1,5 +1,6 @@
 // What all calls on pictures share: the bounds of sizes and lent lengths, and the colours of a pixel.
 ghost use mathlib.Core.Path.{_≡_};
+ghost use mathlib.Core.Bool.{true};
 ghost use Prim.Native.Nat.{_+_, _*_, _<_, _≤_};
 ghost use lib.ListN.{length};
 ghost use Rattle.picture.specs.Bounds.{sizeWrong, originWrong, tableWrong, lentWrong, sideWrong};
@@ -58,6 +59,16 @@ pub fn reduced_at(reduction: &[u8], pixels: &[u8], i: usize) -> ReducedColor
     ensures { λ c. ⌜ c ≡ reducedBy (now (reduction .entry)) (now (pixels .entry)) i ⌝ }
 {
     color::reduce_color(reduction, source_at(pixels, i))
+}
+
+// The red that pixel i reduces to where it is seen; where it is not, some number. Its alpha needs no look: that is for a test
+// that few pixels pass. No public call: the caller sees to the lengths.
+pub fn red_at(reduction: &[u8], pixels: &[u8], i: usize) -> u8
+    requires { ⌜ (length (now reduction) ≡ 256) × (4 * i + 3 < length (now pixels)) ⌝ }
+    ensures { λ r. ⌜ (let reduced = reducedBy (now (reduction .entry)) (now (pixels .entry)) in isSeen reduced i ≡ true → r ≡ reduced i .0 .r) ⌝ }
+{
+    let c = source_at(pixels, i);
+    color::looked_up(reduction, c.0.r)
 }
 
 // Whether pixel i is not transparent. No public call: the caller sees to the lengths.
