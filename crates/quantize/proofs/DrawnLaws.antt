@@ -65,6 +65,8 @@ module _ (q : Commission) (indices out : List ℕ) (cells : List Float) (f : Fit
       indexable = record {
         reduces = f .reduction;
         entries = omega arith;
+        some = f .some;
+        few = f .few;
         source = f .pixels;
         long = long;
         small = λ i h s. subst (λ (c : ReducedColor). indexOf (q .palette) (entries q) c < 256) (sym (at i h)) (index-small i s);

@@ -13,7 +13,7 @@ ghost use Rattle.picture.specs.Pixels.{reducedBy};
 ghost use Rattle.drawing.specs.Lent.{cellsAfter};
 ghost use Rattle.quantize.specs.Quantize.{commission, quantizing, indexOf, indexFor, indexBytes, indicesOf, pixelsOf};
 ghost use Rattle.quantize.specs.Quantize.{lengthsOf, lengthsWrong, entriesWrong, checks, answerOf, Quantized};
-ghost use Rattle.quantize.specs.Steps.{Fitting, Indexable};
+ghost use Rattle.quantize.specs.Steps.{Fitting, Indexable, Firsts};
 
 // What `quantize_pixels` answers.
 pub enum Quantization {
@@ -100,16 +100,48 @@ fn index_of(palette: &[u8], count: usize, c: ReducedColor) -> usize
     index
 }
 
-// The index of a pixel that chose a colour. No public call: the caller sees to the entries, and that the choice of a pixel
-// that is seen is one of the first 256.
-fn pixel_index(palette: &[u8], count: usize, seen: bool, c: ReducedColor) -> u8
-    requires { ⌜ (4 * count ≤ length (now palette)) × (seen ≡ true → indexOf (now palette) count c < 256) ⌝ }
-    ensures { λ k. ⌜ k ≡ indexFor (now (palette .entry)) count seen c ⌝ }
+// A colour's hash.
+fn hash_of(c: ReducedColor) -> usize
+    ensures { λ j. ⌜ j < 64 ⌝ }
+{
+    (c.0.r as usize + 5 * c.0.g as usize + 25 * c.0.b as usize) % 64
+}
+
+// The same as `index_of`, but that the index last found for a colour of the same hash is tried first. No public call: the
+// caller sees to the entries and to what is remembered.
+fn recalled_index(palette: &[u8], count: usize, c: ReducedColor, firsts: &mut [u8; 64]) -> usize
+    requires { ⌜ (4 * count ≤ length (now palette)) × (count ≤ 256) × Firsts (now palette) count (now firsts) ⌝ }
+    ensures { λ k. ⌜ (k ≡ indexOf (now (palette .entry)) count c) × Firsts (now (palette .entry)) count (now (firsts .exit)) ⌝ }
+{
+    let hash = hash_of(c);
+    let known = firsts[hash] as usize;
+    if color::same_reduced(ReducedColor(color::rgba_at(palette, known)), c) {
+        return known;
+    }
+    let k = index_of(palette, count, c);
+    if k < count {
+        firsts[hash] = k as u8;
+    }
+    k
+}
+
+// The index of a pixel that chose a colour. No public call: the caller sees to the entries, to what is remembered, and that
+// the choice of a pixel that is seen is one of the first 256.
+fn pixel_index(
+    palette: &[u8],
+    count: usize,
+    seen: bool,
+    c: ReducedColor,
+    firsts: &mut [u8; 64],
+) -> u8
+    requires { ⌜ (4 * count ≤ length (now palette)) × (count ≤ 256) × (seen ≡ true → indexOf (now palette) count c < 256)
+        × Firsts (now palette) count (now firsts) ⌝ }
+    ensures { λ k. ⌜ (k ≡ indexFor (now (palette .entry)) count seen c) × Firsts (now (palette .entry)) count (now (firsts .exit)) ⌝ }
 {
     if !seen {
         return 0;
     }
-    index_of(palette, count, c) as u8
+    recalled_index(palette, count, c, firsts) as u8
 }
 
 // Gives each pixel its index, from the reduced choices that are lent. No public call: the caller sees to the lengths and the
@@ -127,11 +159,12 @@ fn put_indices(
     ensures { λ _. ⌜ (let reduced = reducedBy (now (reduction .entry)) (now (pixels .entry)) in
         now (indices .exit) ≡ indexBytes (now (palette .entry)) count reduced (reducedAt (now (chosen .entry))) size) ⌝ }
 {
+    let mut firsts = [0u8; 64];
     let mut i = 0;
     while i < size {
         let seen = picture::is_seen(reduction, pixels, i);
         let c = ReducedColor(color::rgba_at(chosen, i));
-        indices[i] = pixel_index(palette, count, seen, c);
+        indices[i] = pixel_index(palette, count, seen, c, &mut firsts);
         i += 1;
     }
 }
