@@ -2,19 +2,17 @@
 -- first entry (`lead-begin`), goes on by one entry (`lead-one`), by two (`lead-two`) or by many that are all farther (`lead-past`), and ends with
 -- the nearest (`lead-end`), since the entry within reach has been seen. Assumes nothing.
 use mathlib.Core.Path.{_≡_, refl, sym, ap, _∙_, subst}
-use mathlib.Core.Logic.{inl, inr}
 use mathlib.Core.Bool.{Bool, true, false, cond, not}
-use Prim.Native.Nat.{ℕ, zero, suc, _+_, _≤_, _<_}
-use native.Mathlib.Nat.{eq-or-lt-of-le, not-suc-le-zero}
+use Prim.Native.Nat.{ℕ, _+_, _≤_, _<_}
+use native.Mathlib.Nat.{not-suc-le-zero}
 use native.Mathlib.Omega.{arith}
 use borrow.Author.Count.{below-more}
-use borrow.Author.Tests.{ltb-true, ltb-false}
-use lib.Dec.{T, T-not, not-T, ltb}
+use lib.Dec.{T, T-not, not-T}
 use lib.Ieee.{Float, lt}
 use Rattle.floats.specs.Bounds.{Upto}
 use Rattle.floats.proofs.Order.{Plain, upto-plain, lt-irreflexive, lt-transitive, lt-asymmetric, nlt-trans, lt-nlt-trans, nlt-lt-trans}
 use Rattle.lists.specs.Least.{leastOf}
-use Rattle.lists.proofs.Bools.{holds, fails, is-true, is-false, and-split}
+use Rattle.lists.proofs.Bools.{holds, fails, is-true, is-false}
 use Rattle.lists.proofs.FirstLaws.{split-at, pass-all}
 use Rattle.lists.proofs.LeastLaws.{least-is, least-only}
 use Rattle.shortlist.specs.declared.near.Leader.{Leader}

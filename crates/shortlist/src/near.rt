@@ -77,7 +77,7 @@ fn leader_between(oklab: &[f32], o: Oklab, from: usize, to: usize, start: Leader
     leader
 }
 
-// The leader after eight entries from k on: one by one only where one of them is not farther than the leader and the reach,
+// The leader after eight entries from k on: by twos, and only where one of them is not farther than the leader and the reach,
 // which is how far some entry is.
 fn leader_by_eight(oklab: &[f32], o: Oklab, reach: f32, k: usize, leader: Leader) -> Leader
     requires { ⌜ 3 * k + 23 < length (now oklab) ⌝ }

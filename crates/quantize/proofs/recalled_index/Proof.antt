@@ -1,7 +1,7 @@
 -- `quantize::recalled_index` meets its contract: the index that is remembered, if its entry is the colour, or the one that is found, which then is
 -- remembered. Assumes nothing.
-use mathlib.Core.Path.{_≡_, sym, ap, _∙_}
-use Prim.Native.Nat.{ℕ, _<_}
+use mathlib.Core.Path.{sym, ap, _∙_}
+use Prim.Native.Nat.{_<_}
 use native.Mathlib.Omega.{arith}
 use lib.ListN.{getD}
 use Rattle.color.specs.declared.ReducedColor.{ReducedColor}
