@@ -27,7 +27,7 @@ enum Order {
     Twins,
 }
 
-/// Entries and order of the lists. One of 31 is searched one by one; one of 32
+/// Entries and order of the lists. One of 31 is searched by twos; one of 32
 /// has whole blocks, one of 85 five entries after them.
 const NEAREST: [(usize, Order); 7] = [
     (31, Order::Any),
