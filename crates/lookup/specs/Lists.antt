@@ -18,13 +18,9 @@ lengthsFit reduced normalized oklab = eqb (reduced % 4) 0 && (eqb normalized red
 unfoldable pub countFits : ℕ → Bool
 countFits n = ltb 0 n && not (ltb 65536 n)
 
--- component k is from -2 to 2
-abbrev pub insideAt : List Float → ℕ → Bool
-insideAt xs k = inRange (getD xs k nan)
-
--- the first component that is not; the length where all are
+-- the first component that is not from -2 to 2; the length where all are
 unfoldable pub firstOutside : List Float → ℕ
-firstOutside xs = firstThat (λ k. not (insideAt xs k)) (length xs)
+firstOutside xs = firstThat (λ k. not (inRange (getD xs k nan))) (length xs)
 
 -- the numbers of a list of reduced bytes, normalised bytes and Oklab floats, and when each applies
 abbrev pub listReplies : List ℕ → List ℕ → List Float → List Reply
@@ -37,3 +33,9 @@ listReplies reduced normalized oklab =
 -- the number of a list: 0 where it is accepted
 unfoldable pub listNumber : List ℕ → List ℕ → List Float → ℕ
 listNumber reduced normalized oklab = firstReply (listReplies reduced normalized oklab)
+
+-- ---- how the code looks at the components
+
+-- component k is from -2 to 2
+abbrev pub insideAt : List Float → ℕ → Bool
+insideAt xs k = inRange (getD xs k nan)
