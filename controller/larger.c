@@ -190,10 +190,12 @@ static void look_up(uint8_t r, uint8_t g, uint8_t b, uint64_t width)
     number(badge_nearest_two(LIST, r, g, b, width, &first, &second), BADGE_ACCEPTED);
     keep(&first, 4);
     keep(&second, 4);
-    number(badge_ordered_bracket(LIST, r, g, b, width, dark, 4, light, 4, &ratio), BADGE_ACCEPTED);
+    number(badge_ordered_bracket(LIST, r, g, b, width, dark, 4, light, 4, &ratio, &first, &second), BADGE_ACCEPTED);
     keep(dark, 4);
     keep(light, 4);
     keep(&ratio, 4);
+    keep(&first, 4);
+    keep(&second, 4);
 }
 
 static void look_up_all(void)

@@ -201,17 +201,21 @@ static void nearest_two(void)
     expect_word(second, accepted);
 }
 
-/* b: reduced normalized oklab color width | number dark light ratio */
+/* b: reduced normalized oklab color width | number dark light ratio dark_position light_position */
 static void ordered_bracket(void)
 {
     uint8_t dark[4] = COLOR_BEFORE, light[4] = COLOR_BEFORE;
     float ratio = float_before();
+    uint32_t dark_position = BEFORE, light_position = BEFORE;
     Part reduced = part(0), normalized = part(1);
     size_t count = lend_floats(2, oklab);
-    expect_number(badge_ordered_bracket(LIST, COLOR, number(4), dark, 4, light, 4, &ratio));
+    expect_number(
+        badge_ordered_bracket(LIST, COLOR, number(4), dark, 4, light, 4, &ratio, &dark_position, &light_position));
     expect_color(dark);
     expect_color(light);
     expect_float(ratio, accepted);
+    expect_word(dark_position, accepted);
+    expect_word(light_position, accepted);
 }
 
 /* ---- pictures; the tables are the first two tokens */
@@ -277,14 +281,14 @@ static const struct {
     {'p', 8, 6, pick},
     {'n', 6, 4, nearest},
     {'m', 8, 5, nearest_two},
-    {'b', 9, 5, ordered_bracket},
+    {'b', 11, 5, ordered_bracket},
     {'c', 12, 8, candidate_colors_in},
     {'q', 15, 11, quantize_pixels},
     {'x', 25, 18, dither_to_mode},
     /* The cases of the lookups over records have the form of the flat ones, which answer them here. */
     {'N', 6, 4, nearest},
     {'M', 8, 5, nearest_two},
-    {'B', 9, 5, ordered_bracket},
+    {'B', 11, 5, ordered_bracket},
 };
 
 const char *const records_by = ", by the flat lookup";

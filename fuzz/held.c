@@ -43,3 +43,12 @@ uint32_t u32_in(const Lent *lent)
     memcpy(&value, lent->fill, sizeof value);
     return value;
 }
+
+bool is_first(const Lent *list, size_t k, size_t bytes)
+{
+    const uint8_t *entries = list->fill;
+    for (size_t i = 0; i < k; i++)
+        if (memcmp(entries + bytes * i, entries + bytes * k, bytes) == 0)
+            return false;
+    return true;
+}

@@ -28,4 +28,7 @@ uint32_t held(uint32_t number, uint32_t expected, Lent *const *written);
 float float_in(const Lent *lent);
 uint32_t u32_in(const Lent *lent);
 
+/* Whether no entry before entry k of a list, each of so many bytes, is the same. */
+bool is_first(const Lent *list, size_t k, size_t bytes);
+
 #endif

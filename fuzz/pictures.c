@@ -32,16 +32,20 @@ uint32_t try_candidate_colors_in(void)
     return number;
 }
 
-/* Each index is an entry's and each pixel that entry, normalised; a transparent pixel is all 0. */
+/* Each index is an entry's, the first of its colour, and each pixel that entry, normalised; a transparent pixel is all 0. */
 static void check_quantized(const Picture *p, const Lent *palette, const Lent *indices, const Lent *out)
 {
     const uint8_t *index = indices->fill, *pixel = out->fill, *entries = palette->fill, *table = p->scale->fill;
+    bool used[256] = {false};
     for (size_t i = 0; i < indices->len; i++) {
         bool opaque = ((uint8_t *)p->pixels->fill)[4 * i + 3] >= 128;
         check(index[i] < palette->len / 4 && (opaque || index[i] == 0), "an index");
         for (size_t c = 0; c < 4; c++)
             check(pixel[4 * i + c] == (opaque ? table[entries[4 * index[i] + c]] : 0), "a pixel");
+        used[index[i]] = true;
     }
+    for (size_t k = 0; k < 256; k++)
+        check(!used[k] || is_first(palette, k, 4), "an index that is not the first of its colour");
 }
 
 static uint32_t quantize_number(const Picture *p, uint32_t kind, const Lent *palette, const Lent *indices, const Lent *out,

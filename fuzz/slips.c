@@ -25,6 +25,14 @@
 #define PAM_LENGTH SIDES, uint64_t *length
 #define WRITE_PAM SIDES, const uint8_t *pixels, size_t pixels_len, uint8_t *file, size_t file_len
 
+#define LIST                                                                                                                 \
+    const uint8_t *reduced, size_t reduced_len, const uint8_t *normalized, size_t normalized_len, const float *oklab,        \
+        size_t oklab_len, uint8_t r, uint8_t g, uint8_t b
+#define NEAREST LIST, uint32_t *position
+#define BRACKET                                                                                                              \
+    LIST, uint64_t width, uint8_t *dark, size_t dark_len, uint8_t *light, size_t light_len, float *ratio,                    \
+        uint32_t *dark_position, uint32_t *light_position
+
 uint32_t __real_badge_quantize_pixels(QUANTIZE);
 uint32_t __wrap_badge_quantize_pixels(QUANTIZE);
 uint32_t __real_badge_dither_to_mode(TO_MODE);
@@ -37,6 +45,10 @@ uint32_t __real_badge_pam_length(PAM_LENGTH);
 uint32_t __wrap_badge_pam_length(PAM_LENGTH);
 uint32_t __real_badge_write_pam(WRITE_PAM);
 uint32_t __wrap_badge_write_pam(WRITE_PAM);
+uint32_t __real_badge_nearest(NEAREST);
+uint32_t __wrap_badge_nearest(NEAREST);
+uint32_t __real_badge_ordered_bracket(BRACKET);
+uint32_t __wrap_badge_ordered_bracket(BRACKET);
 
 static int slip(void)
 {
@@ -60,6 +72,17 @@ static void write_again(const uint8_t *at)
     *byte = *byte;
 }
 
+/* The last entry of a list that is the same as entry k, each of so many bytes. */
+static size_t last_twin(const void *list, size_t bytes, size_t entries, size_t k)
+{
+    const uint8_t *at = list;
+    size_t last = k;
+    for (size_t i = k + 1; i < entries; i++)
+        if (memcmp(at + bytes * i, at + bytes * k, bytes) == 0)
+            last = i;
+    return last;
+}
+
 uint32_t __wrap_badge_quantize_pixels(QUANTIZE)
 {
     uint32_t number = __real_badge_quantize_pixels(shift, kind, width, height, reduction, reduction_len, scale, scale_len,
@@ -75,6 +98,9 @@ uint32_t __wrap_badge_quantize_pixels(QUANTIZE)
     case 6: if (length) number = BADGE_REFUSED_ENTRIES; break;     /* another number */
     case 7: if (accepted && cells_len) cells[0] = -0.0f; break;
     case 8: if (accepted && indices_len) indices[indices_len - 1] ^= 1; break;
+    case 33: /* a later twin of the palette */
+        if (accepted && indices_len) indices[0] = (uint8_t)last_twin(palette, 4, palette_len / 4, indices[0]);
+        break;
     default: break;
     }
     return number;
@@ -166,6 +192,32 @@ uint32_t __wrap_badge_write_pam(WRITE_PAM)
     case 30: if (accepted) file[file_len - 1] ^= 1; break;
     case 31: if (number == BADGE_REFUSED_LENGTH && file_len) file[0] = 'P'; break; /* writes where it refuses */
     case 32: if (accepted) write_again(file + file_len); break;                    /* writes after the file */
+    default: break;
+    }
+    return number;
+}
+
+uint32_t __wrap_badge_nearest(NEAREST)
+{
+    uint32_t number = __real_badge_nearest(reduced, reduced_len, normalized, normalized_len, oklab, oklab_len, r, g, b,
+                                           position);
+    if (slip() == 34 && number == BADGE_ACCEPTED) /* a later twin */
+        *position = (uint32_t)last_twin(oklab, 3 * sizeof *oklab, oklab_len / 3, *position);
+    return number;
+}
+
+uint32_t __wrap_badge_ordered_bracket(BRACKET)
+{
+    uint32_t number = __real_badge_ordered_bracket(reduced, reduced_len, normalized, normalized_len, oklab, oklab_len, r, g,
+                                                   b, width, dark, dark_len, light, light_len, ratio, dark_position,
+                                                   light_position);
+    bool accepted = number == BADGE_ACCEPTED, twins = accepted && memcmp(dark, light, 4) == 0;
+    uint32_t first = *dark_position;
+    switch (slip()) {
+    case 35: if (number == BADGE_REFUSED_LENGTH) *light_position ^= 1; break; /* writes behind a pointer where it refuses */
+    case 36: if (accepted) *dark_position = *light_position; break;           /* the position of the other */
+    case 37: if (twins) *dark_position = *light_position, *light_position = first; break;
+    case 38: if (accepted) *light_position = (uint32_t)(reduced_len / 4); break; /* outside the list */
     default: break;
     }
     return number;

@@ -91,7 +91,7 @@ static void call_nearest_two(void)
 static void call_ordered_bracket(void)
 {
     badge_ordered_bracket(colors, 4 * now.entries, colors, 4 * now.entries, list_oklab, 3 * now.entries, now.r, now.g, now.b,
-                          16, dark, 4, light, 4, f32_out);
+                          16, dark, 4, light, 4, f32_out, &u32_out, &u32_other);
 }
 
 static void call_pick(void)

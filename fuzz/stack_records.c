@@ -28,8 +28,13 @@ typedef struct {
 } Records;
 
 typedef struct {
+    Record copy;
+    size_t position;
+} Taken;
+
+typedef struct {
     uint8_t tag, number; /* the last tag is that of a refusal */
-    Record first, second;
+    Taken first, second;
 } Found;
 
 typedef struct {
@@ -37,6 +42,7 @@ typedef struct {
     struct {
         uint8_t dark[4], light[4];
         float ratio;
+        size_t dark_position, light_position;
     } bracket;
 } FoundBracket;
 
@@ -84,6 +90,12 @@ static void same(bool holds, const char *what)
     }
 }
 
+/* Whether a record was taken from a position of the list. */
+static bool is_taken(const Taken *taken, uint32_t position)
+{
+    return taken->position == position && memcmp(&taken->copy, records + position, sizeof(Record)) == 0;
+}
+
 #define FLAT colors, 4 * now.list.len, colors, 4 * now.list.len, oklab, 3 * now.list.len, r, g, b
 
 /* Holds the three answers, as things stand, to those over the flat list. */
@@ -96,23 +108,24 @@ static void check_answers(bool by_steps)
 
     call_nearest();
     number = badge_nearest(FLAT, &first);
-    same(number == BADGE_ACCEPTED ? found.tag == 0 && memcmp(&found.first, records + first, sizeof(Record)) == 0
+    same(number == BADGE_ACCEPTED ? found.tag == 0 && is_taken(&found.first, first)
                                   : found.tag == 1 && found.number == number,
          "nearest");
 
     call_nearest_two();
     number = badge_nearest_two(FLAT, now.width, &first, &second);
-    same(number == BADGE_ACCEPTED ? found.tag == (first == second)
-                                        && memcmp(&found.first, records + first, sizeof(Record)) == 0
-                                        && (first == second || memcmp(&found.second, records + second, sizeof(Record)) == 0)
+    same(number == BADGE_ACCEPTED ? found.tag == (first == second) && is_taken(&found.first, first)
+                                        && (first == second || is_taken(&found.second, second))
                                   : found.tag == 2 && found.number == number,
          "nearest_two");
 
     call_ordered_bracket();
-    number = badge_ordered_bracket(FLAT, now.width, dark, 4, light, 4, &ratio);
+    number = badge_ordered_bracket(FLAT, now.width, dark, 4, light, 4, &ratio, &first, &second);
     same(number == BADGE_ACCEPTED ? found_bracket.tag == 0 && memcmp(found_bracket.bracket.dark, dark, 4) == 0
                                         && memcmp(found_bracket.bracket.light, light, 4) == 0
                                         && found_bracket.bracket.ratio == ratio
+                                        && found_bracket.bracket.dark_position == first
+                                        && found_bracket.bracket.light_position == second
                                   : found_bracket.tag == 1 && found_bracket.number == number,
          "ordered_bracket");
 }

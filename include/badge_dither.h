@@ -146,20 +146,23 @@ uint32_t badge_nearest_two(const uint8_t *reduced, badge_length reduced_len,
                            uint8_t r, uint8_t g, uint8_t b, uint64_t width, uint32_t *first, uint32_t *second);
 
 /*
- * The two colours that an ordered dither alternates between for the colour: those of badge_nearest_two, the darker one
- * first, and the share of the lighter one in the mix, from 0 to 1. A list of one entry gives the same colour twice, and 0.
- * Accepts: writes the two reduced colours into dark and light, four bytes each, and the share behind ratio.
+ * The two entries that an ordered dither alternates between for the colour: those of badge_nearest_two, the darker one
+ * first, and the share of the lighter one in the mix, from 0 to 1. A list of one entry gives that entry twice, and 0.
+ * Accepts: writes the two reduced colours into dark and light, four bytes each, the share behind ratio, and the positions of
+ * the two entries behind dark_position and light_position. Two entries of the same colour have a position each.
  * Refuses: LENGTH (also where dark or light is not 4 long), ENTRIES, COMPONENT.
  */
 uint32_t badge_ordered_bracket(const uint8_t *reduced, badge_length reduced_len,
                                const uint8_t *normalized, badge_length normalized_len,
                                const float *oklab, badge_length oklab_len, uint8_t r, uint8_t g, uint8_t b, uint64_t width,
-                               uint8_t *dark, badge_length dark_len, uint8_t *light, badge_length light_len, float *ratio);
+                               uint8_t *dark, badge_length dark_len, uint8_t *light, badge_length light_len, float *ratio,
+                               uint32_t *dark_position, uint32_t *light_position);
 
 /*
  * Which of two colours stands at column x and row y: light, if the two differ in some byte and ratio exceeds the threshold
  * of the kind there, and else dark. ratio may be any float; a NaN exceeds nothing.
- * Accepts: writes the colour into chosen, four bytes.
+ * Accepts: writes the colour into chosen, four bytes. For the colours of badge_ordered_bracket, the entry chosen is the one at
+ * dark_position where chosen equals dark, and else the one at light_position.
  * Refuses: KIND_OR_SHIFT (the kind), LENGTH (dark, light or chosen is not 4 long), NO_MATRIX (also where the two colours are
  * the same).
  */

@@ -1,6 +1,6 @@
 //! The port beside an older archive of it, in one run, for a change that must not
 //! make a call slower. The older one needs the C interface as it is now, as far as
-//! the measured calls go.
+//! the measured calls go; a bracket without positions will do.
 
 use std::path::{Path, PathBuf};
 

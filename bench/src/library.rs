@@ -1,7 +1,7 @@
 //! The measured calls of an archive that is loaded and not linked, as a port.
 
 use oracle::case::{Call, Candidates, PickCase, Quantize, ToMode};
-use oracle::port::{Lists, Port, Read, Rooms};
+use oracle::port::{BracketRooms, Lists, Port, Read, Rooms};
 
 use crate::loaded::Loaded;
 
@@ -21,6 +21,7 @@ mod c {
     ) -> u32;
     pub type OrderedBracket = unsafe extern "C" fn(
         Bytes, usize, Bytes, usize, Floats, usize, u8, u8, u8, u64, *mut u8, usize, *mut u8, usize, *mut f32,
+        *mut u32, *mut u32,
     ) -> u32;
     pub type CandidateColorsIn = unsafe extern "C" fn(
         u32, u32, u32, Bytes, usize, Bytes, usize, Bytes, usize, *mut u8, usize, *mut f32, usize, *mut u32,
@@ -49,7 +50,9 @@ pub struct Library {
 
 impl Library {
     pub fn of(loaded: &Loaded) -> Result<Library, String> {
-        // SAFETY: the functions have these types by the C header.
+        // SAFETY: the functions have these types by the C header. An archive of
+        // before request 4 has a bracket without the last two pointers: C's ways
+        // of calling leave arguments that are not asked for where they are.
         unsafe {
             Ok(Library {
                 to_oklab: loaded.function("badge_to_oklab")?,
@@ -103,13 +106,13 @@ impl Port for Library {
         unsafe { put!(self.nearest_two, () [l.reduced] [l.normalized] [l.oklab] (r, g, b, width, first, second)) }
     }
 
-    fn ordered_bracket(
-        &self, l: Lists, [r, g, b]: [u8; 3], width: u64, dark: &mut [u8], light: &mut [u8], ratio: &mut f32,
-    ) -> u32 {
+    fn ordered_bracket(&self, l: Lists, [r, g, b]: [u8; 3], width: u64, rooms: BracketRooms) -> u32 {
+        let BracketRooms { dark, light, ratio, dark_position, light_position } = rooms;
         unsafe {
             put!(
                 self.ordered_bracket,
-                () [l.reduced] [l.normalized] [l.oklab] (r, g, b, width) [mut dark] [mut light] (ratio)
+                () [l.reduced] [l.normalized] [l.oklab] (r, g, b, width) [mut dark] [mut light]
+                (ratio, dark_position, light_position)
             )
         }
     }

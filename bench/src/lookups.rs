@@ -7,7 +7,7 @@ use std::hint::black_box;
 
 use oracle::case::{Call, List};
 use oracle::original::{Records, to_oklab};
-use oracle::port::{Lists, Port};
+use oracle::port::{BracketRooms, Lists, Port};
 use oracle::rng::Rng;
 
 use crate::cases::Row;
@@ -62,7 +62,12 @@ impl Asked {
         let number = match call {
             Call::Nearest => port.nearest(lists, color, &mut first),
             Call::NearestTwo => port.nearest_two(lists, color, WIDTH, &mut first, &mut second),
-            _ => port.ordered_bracket(lists, color, WIDTH, &mut dark, &mut light, &mut ratio),
+            _ => {
+                let [dark_position, light_position] = [&mut first, &mut second];
+                let (dark, light, ratio) = (&mut dark, &mut light, &mut ratio);
+                let rooms = BracketRooms { dark, light, ratio, dark_position, light_position };
+                port.ordered_bracket(lists, color, WIDTH, rooms)
+            }
         };
         assert_eq!(number, 0);
         black_box((first, second, dark, light, ratio));

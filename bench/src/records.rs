@@ -2,8 +2,11 @@
 //! interface: the objects that are loaded are those that `sh controller/run host`
 //! leaves in target/controller. How the functions take arguments and answer is the
 //! toolchain's own affair; it is said here as fuzz/stack_records.c says it, which
-//! holds each answer to that of the lookup over flat lists.
+//! holds each answer to that of the lookup over flat lists. Since request 4 they
+//! answer positions, too. An object of before is measured all the same: which form
+//! its answers have is found by asking it.
 
+use std::ffi::c_void;
 use std::hint::black_box;
 use std::path::Path;
 
@@ -17,7 +20,7 @@ type Rgba = [u8; 4];
 
 /// Floats are kept as their bits, so that two records compare.
 #[repr(C)]
-#[derive(Clone, Copy, Default, PartialEq, Debug)]
+#[derive(Clone, Copy, PartialEq, Debug)]
 struct Record {
     reduced: Rgba,
     normalized: Rgba,
@@ -31,36 +34,78 @@ struct Lent {
     len: usize,
 }
 
-/// The last tag is that of a refusal.
+/// A record that is taken, with its position.
 #[repr(C)]
-#[derive(Default)]
-struct Found {
-    tag: u8,
-    number: u8,
-    first: Record,
-    second: Record,
+#[derive(Clone, Copy)]
+struct Taken {
+    copy: Record,
+    position: usize,
+}
+
+impl From<Taken> for Record {
+    fn from(taken: Taken) -> Record {
+        taken.copy
+    }
 }
 
 #[repr(C)]
-#[derive(Default)]
-struct FoundBracket {
-    tag: u8,
-    number: u8,
+#[derive(Clone, Copy, PartialEq, Debug)]
+struct Bracket {
     dark: Rgba,
     light: Rgba,
     ratio: u32,
 }
 
-type Nearest = unsafe extern "C" fn(*mut Found, *const Lent, *const Rgba);
-type NearestTwo = unsafe extern "C" fn(*mut Found, *const Rgba, *const Lent, u64);
-type OrderedBracket = unsafe extern "C" fn(*mut FoundBracket, *const Rgba, *const Lent, u64);
+/// A bracket with its two positions.
+#[repr(C)]
+#[derive(Clone, Copy)]
+struct Placed {
+    bracket: Bracket,
+    positions: [usize; 2],
+}
+
+impl From<Placed> for Bracket {
+    fn from(placed: Placed) -> Bracket {
+        placed.bracket
+    }
+}
+
+/// The last tag is that of a refusal.
+#[repr(C)]
+#[derive(Clone, Copy)]
+struct Found<R> {
+    tag: u8,
+    number: u8,
+    first: R,
+    second: R,
+}
+
+#[repr(C)]
+#[derive(Clone, Copy)]
+struct FoundBracket<B> {
+    tag: u8,
+    number: u8,
+    bracket: B,
+}
+
+/// Room for any answer of either form, so that neither has more to clear.
+#[repr(C)]
+union Room<R: Copy, B: Copy> {
+    all: [u64; 9],
+    found: Found<R>,
+    bracket: FoundBracket<B>,
+}
+
+type Nearest = unsafe extern "C" fn(*mut c_void, *const Lent, *const Rgba);
+type NearestTwo = unsafe extern "C" fn(*mut c_void, *const Rgba, *const Lent, u64);
+type OrderedBracket = unsafe extern "C" fn(*mut c_void, *const Rgba, *const Lent, u64);
 
 /// What a lookup answers.
 #[derive(PartialEq, Debug)]
 enum Answer {
     One(Record),
     Two(Record, Record),
-    Bracket(Rgba, Rgba, u32),
+    Bracket(Bracket),
     Refused(u8),
 }
 
@@ -69,36 +114,59 @@ struct Lookups {
     nearest: Nearest,
     nearest_two: NearestTwo,
     ordered_bracket: OrderedBracket,
+    /// Whether they answer positions.
+    positions: bool,
 }
 
 impl Lookups {
     fn of(loaded: &Loaded) -> Result<Lookups, String> {
         // SAFETY: the functions have these types by fuzz/stack_records.c.
-        unsafe {
-            Ok(Lookups {
+        let mut lookups = unsafe {
+            Lookups {
                 nearest: loaded.function("records_nearest")?,
                 nearest_two: loaded.function("records_nearest_two")?,
                 ordered_bracket: loaded.function("records_ordered_bracket")?,
-            })
+                positions: true,
+            }
+        };
+        // A record without a position stands at another place of the answer.
+        let only = Record { reduced: [1, 2, 3, 4], normalized: [5, 6, 7, 8], oklab: [0; 3] };
+        lookups.positions = lookups.answer(Call::Nearest, &[only], [0; 3]) == Answer::One(only);
+        Ok(lookups)
+    }
+
+    fn answer(&self, call: Call, list: &[Record], color: [u8; 3]) -> Answer {
+        if self.positions {
+            self.asked::<Taken, Placed>(call, list, color)
+        } else {
+            self.asked::<Record, Bracket>(call, list, color)
         }
     }
 
-    fn answer(&self, call: Call, list: &[Record], [r, g, b]: [u8; 3]) -> Answer {
+    /// `R` is how a record stands in an answer, and `B` how a bracket does.
+    fn asked<R, B>(&self, call: Call, list: &[Record], [r, g, b]: [u8; 3]) -> Answer
+    where
+        R: Copy + Into<Record>,
+        B: Copy + Into<Bracket>,
+    {
         let (lent, color) = (Lent { at: list.as_ptr(), len: list.len() }, [r, g, b, 255]);
-        let (mut found, mut bracket) = (Found::default(), FoundBracket::default());
-        // SAFETY: what is lent lives as long as the call and does not overlap.
+        let mut room = Room::<R, B> { all: [0; 9] };
+        let to = (&raw mut room).cast();
+        // SAFETY: what is lent lives as long as the call and does not overlap. The
+        // room was cleared, and any bytes are numbers; the tag is in the same place
+        // of all answers.
         unsafe {
             match call {
-                Call::Nearest => (self.nearest)(&mut found, &lent, &color),
-                Call::NearestTwo => (self.nearest_two)(&mut found, &color, &lent, WIDTH),
-                _ => (self.ordered_bracket)(&mut bracket, &color, &lent, WIDTH),
+                Call::Nearest => (self.nearest)(to, &lent, &color),
+                Call::NearestTwo => (self.nearest_two)(to, &color, &lent, WIDTH),
+                _ => (self.ordered_bracket)(to, &color, &lent, WIDTH),
             }
-        }
-        match (call, found.tag, bracket.tag) {
-            (Call::Nearest, 0, _) | (Call::NearestTwo, 1, _) => Answer::One(found.first),
-            (Call::NearestTwo, 0, _) => Answer::Two(found.first, found.second),
-            (Call::OrderedBracket, _, 0) => Answer::Bracket(bracket.dark, bracket.light, bracket.ratio),
-            _ => Answer::Refused(found.number | bracket.number),
+            match (call, room.found.tag) {
+                (Call::Nearest, 0) | (Call::NearestTwo, 1) => Answer::One(room.found.first.into()),
+                (Call::NearestTwo, 0) => Answer::Two(room.found.first.into(), room.found.second.into()),
+                (Call::OrderedBracket, 0) => Answer::Bracket(room.bracket.bracket.into()),
+                _ => Answer::Refused(room.found.number),
+            }
         }
     }
 }

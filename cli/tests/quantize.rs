@@ -61,3 +61,19 @@ fn one_entry_and_256_are_palettes() {
         assert_eq!(folder.read("i"), (0..256).map(|i| (i % count) as u8).collect::<Vec<u8>>());
     }
 }
+
+#[test]
+fn an_index_is_the_first_of_equal_entries() {
+    // 7 is 0 in five bits, 248 is 31 and 135 is 16: entries that differ in the file are twins in the mode, too.
+    let entries =
+        [[0; 3], [255; 3], [7; 3], [248; 3], [128, 0, 0], [135, 7, 7], [0; 3], [255; 3], [128, 0, 0], [0, 0, 200]];
+    let colors = entries.map(|entry| entry.map(|v: u8| v & 248 | v >> 5));
+    let folder = Folder::with(&[("in.pam", noise(6, 20, 17, false)), ("twins.pam", rgb(5, &entries))]);
+    for kind in 0..=10 {
+        folder.badge(&format!("quantize --kind {kind} --palette twins.pam --indices i in.pam out.pam")).bytes();
+        let (indices, drawn) = (folder.read("i"), folder.image("out.pam").pixels);
+        let first = |pixel: &[u8]| colors.iter().position(|color| color[..] == pixel[..3]).expect("an entry") as u8;
+        assert_eq!(indices, drawn.chunks(4).map(first).collect::<Vec<u8>>(), "kind {kind}");
+        assert!([0, 1, 4, 9].iter().all(|index| indices.contains(index)), "kind {kind}: a colour that is not drawn");
+    }
+}

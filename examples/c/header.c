@@ -35,7 +35,7 @@ int main(void)
     uint32_t (*nearest_two)(bytes, length, bytes, length, floats, length, uint8_t, uint8_t, uint8_t, uint64_t, uint32_t *,
                             uint32_t *) = badge_nearest_two;
     uint32_t (*bracket)(bytes, length, bytes, length, floats, length, uint8_t, uint8_t, uint8_t, uint64_t, uint8_t *, length,
-                        uint8_t *, length, float *) = badge_ordered_bracket;
+                        uint8_t *, length, float *, uint32_t *, uint32_t *) = badge_ordered_bracket;
     uint32_t (*pick)(bytes, length, bytes, length, float, uint32_t, uint32_t, uint32_t, uint8_t *, length) = badge_pick;
     uint32_t (*candidates)(uint32_t, uint32_t, uint32_t, bytes, length, bytes, length, bytes, length, uint8_t *, length,
                            float *, length, uint32_t *) = badge_candidate_colors_in;

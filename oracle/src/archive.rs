@@ -4,7 +4,7 @@
 use std::cell::Cell;
 
 use crate::case::{Call, Candidates, PickCase, Quantize, ToMode};
-use crate::port::{Lists, Port, Read, Rooms};
+use crate::port::{BracketRooms, Lists, Port, Read, Rooms};
 
 #[rustfmt::skip]
 #[allow(dead_code)]
@@ -45,6 +45,7 @@ mod c {
             reduced: Bytes, n1: usize, normalized: Bytes, n2: usize, oklab: Floats, n3: usize,
             r: u8, g: u8, b: u8, width: u64,
             dark: *mut u8, n4: usize, light: *mut u8, n5: usize, ratio: *mut f32,
+            dark_position: *mut u32, light_position: *mut u32,
         ) -> u32;
         #[cfg(has_badge_pick)]
         pub fn badge_pick(
@@ -187,21 +188,14 @@ impl Port for Archive {
         absent()
     }
 
-    fn ordered_bracket(
-        &self,
-        l: Lists,
-        [r, g, b]: [u8; 3],
-        width: u64,
-        dark: &mut [u8],
-        light: &mut [u8],
-        ratio: &mut f32,
-    ) -> u32 {
+    fn ordered_bracket(&self, l: Lists, [r, g, b]: [u8; 3], width: u64, rooms: BracketRooms) -> u32 {
         #[cfg(has_badge_ordered_bracket)]
         return unsafe {
             c::badge_ordered_bracket(
                 self.ptr(l.reduced), l.reduced.len(), self.ptr(l.normalized), l.normalized.len(),
                 self.ptr(l.oklab), l.oklab.len(), r, g, b, width,
-                self.ptr_mut(dark), dark.len(), self.ptr_mut(light), light.len(), ratio,
+                self.ptr_mut(rooms.dark), rooms.dark.len(), self.ptr_mut(rooms.light), rooms.light.len(),
+                rooms.ratio, rooms.dark_position, rooms.light_position,
             )
         };
         #[cfg(not(has_badge_ordered_bracket))]

@@ -9,6 +9,7 @@ mod maker;
 mod picture_calls;
 mod pictures;
 mod singles;
+mod twins;
 
 pub use corners::corners;
 pub use maker::Style;

@@ -13,7 +13,7 @@ use crate::reference::{expected, settings_of};
 use crate::rng::Rng;
 use crate::text::hex;
 
-const STYLE: Style = Style { finite: true, side: 48, large: false };
+const STYLE: Style = Style { finite: true, side: 48, large: false, twins: 0 };
 
 /// Files by name.
 pub type Files = BTreeMap<String, Vec<u8>>;

@@ -12,7 +12,7 @@ pub use slip::{Mock, Slip};
 
 use crate::case::{Candidates, PickCase, Quantize, ToMode};
 use crate::model;
-use crate::port::{Lists, Port, Read, Rooms};
+use crate::port::{BracketRooms, Lists, Port, Read, Rooms};
 use choose::rgba;
 use draw::Drawing;
 
@@ -69,23 +69,22 @@ impl Port for Mock {
         number
     }
 
-    fn ordered_bracket(
-        &self,
-        lists: Lists,
-        color: [u8; 3],
-        width: u64,
-        dark: &mut [u8],
-        light: &mut [u8],
-        ratio: &mut f32,
-    ) -> u32 {
-        let number = self.list_number(lists, dark.len() != 4 || light.len() != 4);
+    fn ordered_bracket(&self, lists: Lists, color: [u8; 3], width: u64, rooms: BracketRooms) -> u32 {
+        let number = self.list_number(lists, rooms.dark.len() != 4 || rooms.light.len() != 4);
         if self.writes(number) {
-            let bracket = self.find_bracket(&self.entries(lists), color, width);
-            dark.copy_from_slice(&bracket.0);
-            light.copy_from_slice(&bracket.1);
-            *ratio = bracket.2;
+            let list = self.entries(lists);
+            let bracket = self.find_bracket(&list, color, width);
+            rooms.dark.copy_from_slice(&bracket.dark);
+            rooms.light.copy_from_slice(&bracket.light);
+            *rooms.ratio = bracket.ratio;
+            if list.len() > 1 || !self.has_slip(Slip::OneEntryHasNoPositions) {
+                [*rooms.dark_position, *rooms.light_position] = self.positions(&list, color, width, &bracket);
+            }
         } else if number != 0 {
-            self.leave(dark);
+            self.leave(rooms.dark);
+            if self.has_slip(Slip::RefusalWritesPositions) {
+                [*rooms.dark_position, *rooms.light_position] = [0, 0];
+            }
         }
         number
     }
@@ -163,7 +162,7 @@ impl Port for Mock {
         for (i, chosen) in self.draw(&drawing, cells).into_iter().enumerate() {
             let by_alpha = self.has_slip(Slip::TransparentEntryAsTransparentPixel);
             let color = chosen.map(|c| c.0).filter(|c| !by_alpha || c[3] != 0);
-            indices[i] = color.map_or(0, |c| self.index(read.palette, c));
+            indices[i] = color.map_or(0, |c| self.index(&drawing, i, c));
             out[4 * i..4 * i + 4].copy_from_slice(&color.map_or([0; 4], |c| drawing.normalized(c)));
         }
         0

@@ -6,7 +6,7 @@
 use quantette::remembered as to_oklab;
 
 use crate::hooks::Tables;
-use crate::original::{Lab, Rgba, Settings};
+use crate::original::{Bracket, Lab, Rgba, Settings};
 
 pub const OFF: u32 = 0;
 pub const ATKINSON: u32 = 9;
@@ -168,15 +168,19 @@ pub fn nearest_two(list: &[Entry], color: [u8; 3], width: u64) -> (usize, Option
     (a, best.map(|k| between[k]).or(shortlist.first().copied()))
 }
 
-/// Dark, light and the share of light.
-pub fn ordered_bracket(list: &[Entry], color: [u8; 3], width: u64) -> (Rgba, Rgba, f32) {
+/// Dark, light, the share of light, and the two positions: of the nearest two, in
+/// the order of their lightness, and of the first where that is all there is.
+pub fn ordered_bracket(list: &[Entry], color: [u8; 3], width: u64) -> Bracket {
     let (a, second) = nearest_two(list, color, width);
-    let a = list[a];
-    let Some(b) = second.map(|i| list[i]) else {
-        return (a.reduced, a.reduced, 0.0);
+    let (dark_position, light_position, ratio) = match second {
+        None => (a, a, 0.0),
+        Some(b) => {
+            let t = lerp(rgb(list[a].normalized), rgb(list[b].normalized), color, true);
+            if list[a].oklab[0] <= list[b].oklab[0] { (a, b, t) } else { (b, a, 1.0 - t) }
+        }
     };
-    let t = lerp(rgb(a.normalized), rgb(b.normalized), color, true);
-    if b.oklab[0] >= a.oklab[0] { (a.reduced, b.reduced, t) } else { (b.reduced, a.reduced, 1.0 - t) }
+    let [dark, light] = [dark_position, light_position].map(|i| list[i].reduced);
+    Bracket { dark, light, ratio, dark_position, light_position }
 }
 
 /// None for kinds that have no matrix.
@@ -272,7 +276,7 @@ impl Picture<'_> {
             return self.candidates[nearest(self.candidates, color)];
         }
         let (x, y) = self.place(i);
-        let (dark, light, ratio) = ordered_bracket(self.candidates, color, self.bracket_width);
+        let Bracket { dark, light, ratio, .. } = ordered_bracket(self.candidates, color, self.bracket_width);
         let [x, y] = [self.origin[0] + x as u32, self.origin[1] + y as u32];
         entry(self.tables, pick(dark, light, ratio, self.kind, x, y).unwrap())
     }

@@ -143,15 +143,28 @@ pub fn nearest_two(
     probe::nearest_two_positions(opaque(color), &records(reduced, normalized, lab), width as usize)
 }
 
-pub fn ordered_bracket(
-    reduced: &[u8],
-    normalized: &[u8],
-    lab: &[f32],
-    color: [u8; 3],
-    width: u64,
-) -> (Rgba, Rgba, f32) {
-    let (dark, light, ratio) = probe::bracket(opaque(color), &records(reduced, normalized, lab), width as usize);
-    (dark.to_bytes(), light.to_bytes(), ratio)
+/// What an ordered dither alternates between, and where the two stand in the list.
+#[derive(Debug, Clone, Copy)]
+pub struct Bracket {
+    pub dark: Rgba,
+    pub light: Rgba,
+    pub ratio: f32,
+    pub dark_position: usize,
+    pub light_position: usize,
+}
+
+/// The positions are asked for over another list (`probe::bracket_positions`), and
+/// so held to the answer over this one.
+fn bracket_over(list: &[CandidateColor], color: [u8; 3], width: u64) -> Bracket {
+    let (dark, light, ratio) = probe::bracket(opaque(color), list, width as usize);
+    let (dark_position, light_position, again) = probe::bracket_positions(opaque(color), list, width as usize);
+    assert_eq!(again.to_bits(), ratio.to_bits());
+    assert_eq!([list[dark_position].reduced, list[light_position].reduced], [dark, light]);
+    Bracket { dark: dark.to_bytes(), light: light.to_bytes(), ratio, dark_position, light_position }
+}
+
+pub fn ordered_bracket(reduced: &[u8], normalized: &[u8], lab: &[f32], color: [u8; 3], width: u64) -> Bracket {
+    bracket_over(&records(reduced, normalized, lab), color, width)
 }
 
 /// A list of records that is made once and asked again and again, as the original

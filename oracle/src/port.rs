@@ -39,15 +39,7 @@ pub trait Port {
     fn lerp(&self, colors: [[u8; 3]; 3], clamp: u32) -> f32;
     fn nearest(&self, lists: Lists, color: [u8; 3], position: &mut u32) -> u32;
     fn nearest_two(&self, lists: Lists, color: [u8; 3], width: u64, first: &mut u32, second: &mut u32) -> u32;
-    fn ordered_bracket(
-        &self,
-        lists: Lists,
-        color: [u8; 3],
-        width: u64,
-        dark: &mut [u8],
-        light: &mut [u8],
-        ratio: &mut f32,
-    ) -> u32;
+    fn ordered_bracket(&self, lists: Lists, color: [u8; 3], width: u64, rooms: BracketRooms) -> u32;
     fn pick(&self, case: &PickCase, dark: &[u8], light: &[u8], chosen: &mut [u8]) -> u32;
     fn candidate_colors_in(
         &self,
@@ -66,6 +58,15 @@ pub trait Port {
         cells: &mut [f32],
     ) -> u32;
     fn dither_to_mode(&self, case: &ToMode, read: Read, rooms: Rooms, count: &mut u32, tile: &mut u32) -> u32;
+}
+
+/// What `ordered_bracket` may write: two buffers, and values behind pointers.
+pub struct BracketRooms<'a> {
+    pub dark: &'a mut [u8],
+    pub light: &'a mut [u8],
+    pub ratio: &'a mut f32,
+    pub dark_position: &'a mut u32,
+    pub light_position: &'a mut u32,
 }
 
 /// The four buffers that `dither_to_mode` may write.
@@ -249,9 +250,15 @@ fn run_nearest_two(port: &impl Port, lookup: &Lookup) -> Answer {
 fn run_ordered_bracket(port: &impl Port, lookup: &Lookup, dark: &[u8], light: &[u8]) -> Answer {
     let lent = LentLists::new(lookup);
     let [mut dark, mut light] = [dark, light].map(Room::new);
-    let mut ratio = rubbish_float();
-    let number =
-        port.ordered_bracket(lent.lists(), lookup.color, lookup.width, dark.inner_mut(), light.inner_mut(), &mut ratio);
+    let (mut ratio, [mut dark_position, mut light_position]) = (rubbish_float(), [RUBBISH; 2]);
+    let rooms = BracketRooms {
+        dark: dark.inner_mut(),
+        light: light.inner_mut(),
+        ratio: &mut ratio,
+        dark_position: &mut dark_position,
+        light_position: &mut light_position,
+    };
+    let number = port.ordered_bracket(lent.lists(), lookup.color, lookup.width, rooms);
     lent.check(lookup, Call::OrderedBracket);
     demand(dark.margins_kept() && light.margins_kept(), "dark, light", Call::OrderedBracket);
     Answer(vec![
@@ -259,6 +266,8 @@ fn run_ordered_bracket(port: &impl Port, lookup: &Lookup, dark: &[u8], light: &[
         ("dark", Value::bytes(dark.inner())),
         ("light", Value::bytes(light.inner())),
         ("ratio", written_float(ratio)),
+        ("dark_position", written(dark_position)),
+        ("light_position", written(light_position)),
     ])
 }
 

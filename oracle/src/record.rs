@@ -2,6 +2,7 @@
 //! it has, and how they are written.
 
 pub mod searches;
+pub mod twins;
 
 use crate::case::{Call, Case, LentTables, List, Lookup};
 use crate::color::{ReducedColor, eq_rgb};
@@ -65,11 +66,11 @@ fn kind_of(case: &Case) -> u32 {
 }
 
 /// Cases until every quota is full.
-fn sample(call: Call, seed: u64, mut wanted: Vec<Quota>, fixed: Option<(u32, &Tables)>) -> Vec<Case> {
+fn sample(call: Call, style: Style, seed: u64, mut wanted: Vec<Quota>, fixed: Option<(u32, &Tables)>) -> Vec<Case> {
     let mut taken = Vec::new();
     for turn in 0.. {
         assert!(turn < 100_000, "no case of {} for {wanted:?}", call.name());
-        let case = case_with(call, seed, turn, Style::RECORDER, fixed);
+        let case = case_with(call, seed, turn, style, fixed);
         let number = expected(&case).number();
         let fits = |w: &&mut Quota| w.number == number && w.kind.is_none_or(|k| k == kind_of(&case));
         if let Some(quota) = wanted.iter_mut().find(fits) {
@@ -99,11 +100,12 @@ fn has_tables(call: Call) -> bool {
 /// The cases of a call's group.
 fn cases_of(call: Call, seed: u64) -> Vec<Case> {
     if !has_tables(call) {
-        return sample(call, seed, quotas(call, 0), None);
+        return sample(call, Style::RECORDER, seed, quotas(call, 0), None);
     }
     let mut all = Vec::new();
     for ((shift, tables), turn) in table_sets(seed).iter().zip(0..) {
-        let mut cases = sample(call, seed + 1 + u64::from(turn), quotas(call, turn), Some((*shift, tables)));
+        let (seed, fixed) = (seed + 1 + u64::from(turn), Some((*shift, tables)));
+        let mut cases = sample(call, Style::RECORDER, seed, quotas(call, turn), fixed);
         // Those with spoiled tables last, so that the tables change less often.
         let own = LentTables::from(tables);
         cases.sort_by_key(|case| case.tables() != Some(&own));
@@ -146,7 +148,7 @@ fn record_cases_of(call: Call, seed: u64) -> Vec<Case> {
     let mut wanted = quotas(call, 0);
     wanted.retain(|quota| quota.number != 3);
     wanted.iter_mut().filter(|quota| quota.number == 0).for_each(|quota| quota.count = 12);
-    let mut cases = sample(call, seed + 1, wanted, None);
+    let mut cases = sample(call, Style::RECORDER, seed + 1, wanted, None);
     let mut rng = Rng::new(seed + 1);
     for entries in [1, 1, 2, 2, 2, 2, 150, 300] {
         let lookup = lookup_over(entries, &mut rng);
@@ -159,12 +161,12 @@ fn record_cases_of(call: Call, seed: u64) -> Vec<Case> {
     cases
 }
 
-/// The group of a lookup over records. The lookups over records have the flat
+/// A group of a lookup over records. The lookups over records have the flat
 /// calls' tokens, and their letters in upper case.
-fn records_group(call: Call, seed: u64) -> String {
-    let mut text = format!("g records_{}\n", call.name());
-    for case in record_cases_of(call, seed) {
-        let flat = line(&case, &expected(&case));
+fn records_group(name: &str, cases: &[Case]) -> String {
+    let mut text = format!("g records_{name}\n");
+    for case in cases {
+        let flat = line(case, &expected(case));
         text += &flat[..1].to_uppercase();
         text += &flat[1..];
         text.push('\n');
@@ -205,11 +207,15 @@ pub fn list(calls: &[Call], seed: u64, command: &str) -> String {
         text += &group(call.name(), &cases_of(call, seed));
         match call {
             Call::Nearest | Call::NearestTwo | Call::OrderedBracket => {
+                let twins = format!("{}_twins", call.name());
                 text += &group(&format!("{}_searches", call.name()), &searches::of_lookup(call, seed));
-                text += &records_group(call, seed);
+                text += &group(&twins, &twins::of_lookup(call, seed, 16));
+                text += &records_group(call.name(), &record_cases_of(call, seed));
+                text += &records_group(&twins, &twins::of_lookup(call, seed + 1, 2));
             }
             Call::QuantizePixels => {
                 text += &group("quantize_pixels_searches", &searches::of_quantize());
+                text += &group("quantize_pixels_twins", &twins::of_quantize(seed));
                 text += &group("quantize_pixels_examples", &examples::of_quantize());
             }
             Call::DitherToMode => {

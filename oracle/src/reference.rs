@@ -5,7 +5,8 @@
 //! Two things the original does not say. The tile's number after 8 comes from
 //! the model, whose whole pictures the self-check holds to the original; and
 //! whether candidates fit their room is a comparison of two counts. Cells are
-//! the original's own, handed over where its `Ditherer` ends.
+//! the original's own, handed over where its `Ditherer` ends. So are a bracket's
+//! positions: they are read off its answer over numbered records.
 
 use crate::case::{Answer, Candidates, Case, LentTables, List, Lookup, PickCase, Quantize, ToMode, Value};
 use crate::hooks::Tables;
@@ -132,9 +133,11 @@ fn ordered_bracket(lookup: &Lookup, dark: &[u8], light: &[u8]) -> Answer {
         (number == 0).then(|| original::ordered_bracket(reduced, normalized, oklab, lookup.color, lookup.width));
     Answer(vec![
         ("number", Value::Number(number)),
-        ("dark", Value::bytes(bracket.as_ref().map_or(dark, |b| &b.0))),
-        ("light", Value::bytes(bracket.as_ref().map_or(light, |b| &b.1))),
-        ("ratio", Value::Float(bracket.map(|b| b.2.to_bits()))),
+        ("dark", Value::bytes(bracket.as_ref().map_or(dark, |b| &b.dark))),
+        ("light", Value::bytes(bracket.as_ref().map_or(light, |b| &b.light))),
+        ("ratio", Value::Float(bracket.map(|b| b.ratio.to_bits()))),
+        ("dark_position", Value::Word32(bracket.map(|b| b.dark_position as u32))),
+        ("light_position", Value::Word32(bracket.map(|b| b.light_position as u32))),
     ])
 }
 

@@ -32,6 +32,7 @@ extern "C" {
         reduced: Bytes, reduced_len: usize, normalized: Bytes, normalized_len: usize, oklab: Floats, oklab_len: usize,
         r: u8, g: u8, b: u8, width: u64,
         dark: *mut u8, dark_len: usize, light: *mut u8, light_len: usize, ratio: *mut f32,
+        dark_position: *mut u32, light_position: *mut u32,
     ) -> u32;
 
     pub fn badge_pick(

@@ -48,7 +48,7 @@ mod pictures;
 mod refusal;
 mod values;
 
-pub use lookups::{nearest, nearest_two, ordered_bracket, pick, Bracket, Candidates};
+pub use lookups::{nearest, nearest_two, ordered_bracket, pick, Bracket, Candidates, Choice};
 pub use pictures::{candidate_colors_in, dither_to_mode, quantize_pixels, Output, Picture, Rooms, Settings, Tables};
 pub use refusal::Refusal;
 pub use values::{

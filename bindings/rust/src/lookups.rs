@@ -22,15 +22,28 @@ pub struct Candidates<'a> {
     pub oklab: &'a [f32],
 }
 
-/// Two colours that an ordered dither alternates between.
+/// Two entries of a list that an ordered dither alternates between.
 #[derive(Clone, Copy, Debug, PartialEq)]
 pub struct Bracket {
-    /// The darker one.
+    /// The colour of the darker one.
     pub dark: ReducedColor,
-    /// The lighter one.
+    /// The colour of the lighter one.
     pub light: ReducedColor,
     /// The share of the lighter one in the mix.
     pub ratio: f32,
+    /// The position of the darker one in the list.
+    pub dark_position: usize,
+    /// The position of the lighter one in the list.
+    pub light_position: usize,
+}
+
+/// An entry that is chosen: its colour, and its position in the list.
+#[derive(Clone, Copy, Debug, PartialEq, Eq)]
+pub struct Choice {
+    /// The reduced colour.
+    pub color: ReducedColor,
+    /// The position.
+    pub position: usize,
 }
 
 /// The position of the entry nearest to a colour, the first of equals.
@@ -66,29 +79,34 @@ pub fn nearest_two(list: Candidates, color: NormalizedColor, width: u64) -> Resu
     Refusal::unless_accepted(number, (first as usize, other))
 }
 
-/// The two colours of [`nearest_two`], the darker one first, and the share of
-/// the lighter one. A list of one entry gives its colour twice, and 0.
+/// The two entries of [`nearest_two`], the darker one first, each with its
+/// colour and its position, and the share of the lighter one. A list of one
+/// entry gives that entry twice, and 0. Two entries of the same colour have a
+/// position each.
 #[rustfmt::skip]
 pub fn ordered_bracket(list: Candidates, color: NormalizedColor, width: u64) -> Result<Bracket, Refusal> {
     let [r, g, b, _] = color.0;
     let (mut dark, mut light, mut ratio) = ([0; 4], [0; 4], 0.0);
+    let (mut dark_position, mut light_position) = (0, 0);
     // SAFETY: as the head of this file says.
     let number = unsafe {
         c::badge_ordered_bracket(
             list.reduced.as_ptr(), list.reduced.len(), list.normalized.as_ptr(), list.normalized.len(),
             list.oklab.as_ptr(), list.oklab.len(), r, g, b, width, dark.as_mut_ptr(), dark.len(),
-            light.as_mut_ptr(), light.len(), &mut ratio,
+            light.as_mut_ptr(), light.len(), &mut ratio, &mut dark_position, &mut light_position,
         )
     };
-    Refusal::unless_accepted(number, Bracket { dark: ReducedColor(dark), light: ReducedColor(light), ratio })
+    let (dark_position, light_position) = (dark_position as usize, light_position as usize);
+    let (dark, light) = (ReducedColor(dark), ReducedColor(light));
+    Refusal::unless_accepted(number, Bracket { dark, light, ratio, dark_position, light_position })
 }
 
-/// Which colour of a bracket stands at column `x` and row `y`: the lighter one
-/// if the two differ and the ratio exceeds the kind's threshold there. Any
-/// ratio will do; a NaN exceeds nothing. Refuses with
+/// Which entry of a bracket stands at column `x` and row `y`: the lighter one
+/// if the two colours differ and the ratio exceeds the kind's threshold there.
+/// Any ratio will do; a NaN exceeds nothing. Refuses with
 /// [`KindOrShift`](Refusal::KindOrShift) and [`NoMatrix`](Refusal::NoMatrix).
 #[rustfmt::skip]
-pub fn pick(bracket: Bracket, kind: u32, x: u32, y: u32) -> Result<ReducedColor, Refusal> {
+pub fn pick(bracket: Bracket, kind: u32, x: u32, y: u32) -> Result<Choice, Refusal> {
     let (dark, light, mut chosen) = (bracket.dark.0, bracket.light.0, [0; 4]);
     // SAFETY: as the head of this file says.
     let number = unsafe {
@@ -97,5 +115,9 @@ pub fn pick(bracket: Bracket, kind: u32, x: u32, y: u32) -> Result<ReducedColor,
             chosen.as_mut_ptr(), chosen.len(),
         )
     };
-    Refusal::unless_accepted(number, ReducedColor(chosen))
+    // The C call answers a colour, and light's only where the two differ. So a
+    // colour that equals dark's is dark's entry, also where light is a twin of
+    // it, and any other is light's: nothing has to be looked for in the list.
+    let position = if chosen == dark { bracket.dark_position } else { bracket.light_position };
+    Refusal::unless_accepted(number, Choice { color: ReducedColor(chosen), position })
 }

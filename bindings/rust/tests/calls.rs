@@ -59,20 +59,67 @@ fn two_of_a_list() {
 
 #[test]
 fn bracket_of_a_list_and_its_pick() {
-    let bracket = ordered_bracket(Greys::new(&[255, 0]).list(), MID, 4).unwrap();
-    assert_eq!((bracket.dark, bracket.light), (ReducedColor(BLACK), ReducedColor(WHITE)));
-    assert!(bracket.ratio > 0.25 && bracket.ratio < 0.75);
-    assert_eq!(pick(bracket, kind::CHECKER, 0, 0).unwrap(), pick(bracket, kind::CHECKER, 1, 1).unwrap());
-    assert_ne!(pick(bracket, kind::CHECKER, 0, 0).unwrap(), pick(bracket, kind::CHECKER, 1, 0).unwrap());
+    // The darker one comes first, wherever it stands in the list.
+    for (levels, positions) in [([255, 0], (1, 0)), ([0, 255], (0, 1))] {
+        let bracket = ordered_bracket(Greys::new(&levels).list(), MID, 4).unwrap();
+        assert_eq!((bracket.dark, bracket.light), (ReducedColor(BLACK), ReducedColor(WHITE)));
+        assert_eq!((bracket.dark_position, bracket.light_position), positions);
+        assert!(bracket.ratio > 0.25 && bracket.ratio < 0.75);
+        assert_eq!(pick(bracket, kind::CHECKER, 0, 0).unwrap(), pick(bracket, kind::CHECKER, 1, 1).unwrap());
+        let picked = [0, 1].map(|x| pick(bracket, kind::CHECKER, x, 0).unwrap());
+        let dark = Choice { color: ReducedColor(BLACK), position: positions.0 };
+        let light = Choice { color: ReducedColor(WHITE), position: positions.1 };
+        assert!(picked == [dark, light] || picked == [light, dark], "{picked:?}");
+    }
+}
+
+#[test]
+fn bracket_of_one_entry() {
     let solid = ordered_bracket(Greys::new(&[255]).list(), MID, 4).unwrap();
-    assert_eq!(solid, Bracket { dark: ReducedColor(WHITE), light: ReducedColor(WHITE), ratio: 0.0 });
+    let white = ReducedColor(WHITE);
+    assert_eq!(solid, Bracket { dark: white, light: white, ratio: 0.0, dark_position: 0, light_position: 0 });
+    assert_eq!(pick(solid, kind::CHECKER, 1, 0), Ok(Choice { color: white, position: 0 }));
+}
+
+#[test]
+fn bracket_of_an_entry_and_its_twin() {
+    let greys = Greys::new(&[255, 130, 0, 130]);
+    assert_eq!(nearest_two(greys.list(), MID, 1), Ok((1, Some(3))));
+    let twins = ordered_bracket(greys.list(), MID, 1).unwrap();
+    let color = ReducedColor(grey(130 >> 3));
+    assert_eq!(twins, Bracket { dark: color, light: color, ratio: 0.0, dark_position: 1, light_position: 3 });
+    // Of one colour dark's entry is chosen, by any ratio.
+    for ratio in [0.0, 0.5, f32::INFINITY] {
+        let choice = pick(Bracket { ratio, ..twins }, kind::CHECKER, 0, 0);
+        assert_eq!(choice, Ok(Choice { color, position: 1 }), "ratio {ratio}");
+    }
+}
+
+#[test]
+fn positions_are_those_of_the_colours() {
+    let levels = [40, 255, 90, 0, 90, 200, 130, 0, 255];
+    let (greys, reduced) = (Greys::new(&levels), |k: usize| ReducedColor(grey(levels[k] >> 3)));
+    for level in 0..=255 {
+        let (color, width) = (NormalizedColor(grey(level)), 1 + u64::from(level) % 9);
+        let bracket = ordered_bracket(greys.list(), color, width).unwrap();
+        let positions = [bracket.dark_position, bracket.light_position];
+        assert_eq!(positions.map(reduced), [bracket.dark, bracket.light], "level {level}");
+        let (first, second) = nearest_two(greys.list(), color, width).unwrap();
+        assert!(positions.contains(&first) && second.is_some_and(|second| positions.contains(&second)));
+        for x in 0..8 {
+            let choice = pick(bracket, kind::BAYER_8X8, x, u32::from(level)).unwrap();
+            assert!(positions.contains(&choice.position) && choice.color == reduced(choice.position), "level {level}");
+        }
+    }
 }
 
 #[test]
 fn any_ratio_is_picked_by() {
-    let of = |ratio| Bracket { dark: ReducedColor(BLACK), light: ReducedColor(WHITE), ratio };
-    for (ratio, chosen) in [(f32::NAN, BLACK), (f32::NEG_INFINITY, BLACK), (f32::INFINITY, WHITE)] {
-        assert_eq!(pick(of(ratio), kind::BAYER_8X8, u32::MAX, u32::MAX), Ok(ReducedColor(chosen)));
+    let (black, white) = (ReducedColor(BLACK), ReducedColor(WHITE));
+    let of = |ratio| Bracket { dark: black, light: white, ratio, dark_position: 7, light_position: 3 };
+    let (dark, light) = (Choice { color: black, position: 7 }, Choice { color: white, position: 3 });
+    for (ratio, chosen) in [(f32::NAN, dark), (f32::NEG_INFINITY, dark), (f32::INFINITY, light)] {
+        assert_eq!(pick(of(ratio), kind::BAYER_8X8, u32::MAX, u32::MAX), Ok(chosen));
     }
 }
 

@@ -64,7 +64,8 @@ fn the_longest_list() {
 
 #[test]
 fn picks() {
-    let same = Bracket { dark: ReducedColor(BLACK), light: ReducedColor(BLACK), ratio: 0.5 };
+    let black = ReducedColor(BLACK);
+    let same = Bracket { dark: black, light: black, ratio: 0.5, dark_position: 0, light_position: 0 };
     assert_eq!(pick(same, 11, 0, 0), Err(Refusal::KindOrShift));
     for kind in [kind::OFF, kind::ATKINSON, kind::FLOYD_STEINBERG] {
         assert_eq!(pick(same, kind, 0, 0), Err(Refusal::NoMatrix));

@@ -5,6 +5,7 @@ use color::NormalizedColor;
 use color::Oklab;
 use color::ReducedColor;
 use lookup::Bracket;
+use lookup::Choice;
 use lookup::Found;
 use lookup::FoundBracket;
 use lookup::FoundTwo;
@@ -122,18 +123,28 @@ fn lerp(room: &[u8]) -> bool {
     is_float(room, 2, t)
 }
 
+// Whether the tokens from 6 on are this choice, of dark at position 0 and light at 1. Light of dark's colour is never picked.
+fn is_choice(room: &[u8], dark: ReducedColor, choice: Choice) -> bool {
+    let color = choice.color;
+    let light = !is_color(room, 7, dark);
+    is_byte(room, 6, 0) & (is_color(room, 7, color) & (choice.position == light as usize))
+}
+
 // p: dark light ratio kind x y | number chosen
 fn pick(room: &[u8]) -> bool {
     if !shaped(room, &[4, 4, 4, 4, 4, 4, 1, ANY]) {
         return false;
     }
+    let dark = reduced(room, 0);
     let bracket = Bracket {
-        dark: reduced(room, 0),
+        dark,
         light: reduced(room, 1),
         ratio: float_at(part(room, 2), 0),
+        dark_position: 0,
+        light_position: 1,
     };
     match lookup::pick(bracket, word(room, 3), word(room, 4), word(room, 5)) {
-        Picked::Color(c) => is_byte(room, 6, 0) & is_color(room, 7, c),
+        Picked::Of(choice) => is_choice(room, dark, choice),
         Picked::Refused(n) => is_refusal(room, 6, n),
     }
 }
@@ -181,13 +192,15 @@ fn nearest_two(room: &[u8], oklab: &[f32]) -> bool {
 pub fn is_bracket(room: &[u8], bracket: Bracket) -> bool {
     let dark = bracket.dark;
     let light = bracket.light;
-    is_byte(room, 5, 0)
-        & (is_color(room, 6, dark) & (is_color(room, 7, light) & is_float(room, 8, bracket.ratio)))
+    let colors = is_color(room, 6, dark) & is_color(room, 7, light);
+    let positions = is_position(room, 9, bracket.dark_position)
+        & is_position(room, 10, bracket.light_position);
+    is_byte(room, 5, 0) & (colors & (is_float(room, 8, bracket.ratio) & positions))
 }
 
-// b: reduced normalized oklab color width | number dark light ratio
+// b: reduced normalized oklab color width | number dark light ratio dark_position light_position
 fn ordered_bracket(room: &[u8], oklab: &[f32]) -> bool {
-    if !shaped(room, &[ANY, ANY, ANY, 3, 8, 1, ANY, ANY, ANY]) {
+    if !shaped(room, &[ANY, ANY, ANY, 3, 8, 1, ANY, ANY, ANY, ANY, ANY]) {
         return false;
     }
     let color = color_at(part(room, 3), 0);

@@ -128,6 +128,7 @@ fn choose(
     let zero = s.zero;
     let colors = &places[..4 * count];
     let floats = &oklab[..3 * count];
+    let mut no_indices = [0u8; 0];
     ditherer.draw(
         zero,
         linear,
@@ -137,6 +138,7 @@ fn choose(
         colors,
         floats,
         count,
+        &mut no_indices,
         out,
         cells,
     );

@@ -1,5 +1,6 @@
 -- The laws of `drawing`.
 pub mod DrawnLaws
+pub mod PositionLaws
 pub mod CandidateLaws
 pub mod OutputLaws
 pub mod FinishedLaws

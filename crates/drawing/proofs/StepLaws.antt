@@ -25,29 +25,34 @@ use Rattle.shortlist.specs.Candidates.{Candidates, scaled}
 use Rattle.shortlist.specs.Nearest.{nearestIn}
 use Rattle.lookup.specs.declared.BracketAt.{BracketAt}
 use Rattle.lookup.specs.declared.Bracket.{Bracket}
-use Rattle.lookup.specs.Bracket.{bracketAtOf, colored, pickAt}
+use Rattle.lookup.specs.declared.Choice.{Choice}
+use Rattle.lookup.specs.Bracket.{bracketAtOf, colored, choiceAt}
+use Rattle.lookup.specs.Positions.{Takes}
 use Rattle.lookup.proofs.BracketLaws.{bracket-inside}
+use Rattle.lookup.proofs.PositionLaws.{nearest-taken, picked-taken}
 use Rattle.diffusion.specs.Biased.{biasedColor}
 use Rattle.diffusion.specs.Scatter.{sends}
 use Rattle.diffusion.specs.Sends.{residualsOf}
 use Rattle.drawing.specs.declared.ColorZero.{ColorZero}
 use Rattle.drawing.specs.declared.Ditherer.{Ditherer}
-use Rattle.drawing.specs.Drawing.{nearestColor, orderedColor, colorAt, drawn}
+use Rattle.drawing.specs.Drawing.{nearestColor, orderedColor, colorAt}
 use Rattle.drawing.specs.Lent.{isSkipped, Lent, reducedLent, candidatesLent, drawingOf, Ready}
 use Rattle.remembered.specs.Table.{memorySize, nearestAlone, nearestBoth}
 use Rattle.remembered.specs.Shorts.{shortlistAt}
 use Rattle.remembered.proofs.TableLaws.{table-none}
 use Rattle.remembered.proofs.ShortLaws.{rows-none}
 use Rattle.drawing.specs.Turns.{Choosable, Inside, Diffused, RemembersBy, Remembers}
+use Rattle.drawing.specs.Positions.{TakesAt}
 use Rattle.drawing.proofs.DrawnLaws.{drawn-plain}
+use Rattle.drawing.proofs.PositionLaws.{takes-dithered}
 
-pub nearest-is : (colors scale : List ℕ) (oklab : List Float) (n : ℕ) (k : ℕ) (r : Rgba8888) (c : NormalizedColor)
+pub nearest-is : (colors scale : List ℕ) (oklab : List Float) (n : ℕ) → Choosable colors scale oklab n → (k : ℕ) (r : Rgba8888) (c : NormalizedColor)
     → k ≡ nearestIn (oklabAt oklab) n (toOklab c) → r ≡ rgbaAt colors k
-    → _≡_ {A = ReducedColor} (record { 0 = r }) (nearestColor (scaled colors scale oklab n) c)
+    → let cs = scaled colors scale oklab n in Takes cs (nearestColor cs c) (record { color = record { 0 = r }; position = k })
 unfolding nearestColor
-nearest-is colors scale oklab n k r c near read =
+nearest-is colors scale oklab n f k r c near read =
     let e : r ≡ rgbaAt colors (nearestIn (oklabAt oklab) n (toOklab c)) = read ∙ ap (rgbaAt colors) near in
-    λ q. record { 0 = e q }
+    nearest-taken (scaled colors scale oklab n) (f .some) (f .ranged .range) (toOklab c) _ (λ q. record { 0 = e q }) near
 
 -- what is remembered, by the kind
 module _ (t : Ditherer) (cs : Candidates) (memory : List ℕ) where
@@ -73,23 +78,25 @@ module _ (cs : Candidates) (width : ℕ) (c : NormalizedColor) (at : BracketAt) 
       let inside = bracket-inside cs width (toOklab c) c some range in
       subst (λ (b : BracketAt). (4 * b .dark + 3 < m) × (4 * b .light + 3 < m)) (sym made) (omega (arith, inside .0), omega (arith, inside .1))
 
-  pub ordered-is : (kind x y x′ y′ : ℕ) (bracket : Bracket) (threshold : Float) (r : ReducedColor) → bracket ≡ colored (cs .reduced) at
-      → x ≡ x′ → y ≡ y′ → threshold ≡ thresholdAt kind x y → r ≡ pickAt bracket threshold → r ≡ orderedColor cs kind width x′ y′ c
+  pub ordered-is : 0 < cs .count → ((k : ℕ) → k < cs .count → T (allInRange (cs .oklab k)))
+      → (kind x y x′ y′ : ℕ) (bracket : Bracket) (threshold : Float) (r : Choice) → bracket ≡ colored (cs .reduced) at
+      → x ≡ x′ → y ≡ y′ → threshold ≡ thresholdAt kind x y → r ≡ choiceAt bracket threshold → Takes cs (orderedColor cs kind width x′ y′ c) r
   unfolding orderedColor
-  ordered-is kind x y x′ y′ bracket threshold r read X Y found picked =
+  ordered-is some range kind x y x′ y′ bracket threshold r read X Y found picked =
       let b : bracket ≡ colored (cs .reduced) (bracketAtOf cs width (toOklab c) c) = read ∙ ap (colored (cs .reduced)) made in
       let t : threshold ≡ thresholdAt kind x′ y′ = found ∙ (λ q. thresholdAt kind (X q) (Y q)) in
-      picked ∙ (λ q. pickAt (b q) (t q))
+      picked-taken cs some range width (toOklab c) c (thresholdAt kind x′ y′) r (picked ∙ (λ q. choiceAt (b q) (t q)))
 
-pub diffused-is : (t : Ditherer) (cs : Candidates) (scale : List ℕ) (zs : List ℤ) (i : ℕ) (color biased normalized : NormalizedColor) (c : ReducedColor)
+pub diffused-is : (t : Ditherer) (cs : Candidates) (scale : List ℕ) (zs : List ℤ) (i : ℕ) (color biased normalized : NormalizedColor) (c : Choice)
     (x y : ℕ) (cells : List Float)
-    → biased ≡ biasedColor color zs i → c ≡ nearestColor cs biased → normalized ≡ normalizeColor scale c → x ≡ i % t .width → y ≡ i / t .width
+    → biased ≡ biasedColor color zs i → Takes cs (nearestColor cs biased) c → normalized ≡ normalizeColor scale (c .color) → x ≡ i % t .width
+    → y ≡ i / t .width
     → cells ≡ map sixteenths (sends zs (residualsOf (biased .0) (normalized .0)) (kernelOf (t .kind)) (t .width) (t .height) (y * t .width + x))
     → Diffused t cs scale zs i color c cells
 diffused-is t cs scale zs i color biased normalized c x y cells B C N X Y passed =
     let at : y * t .width + x ≡ i = (λ q. Y q * t .width + X q) ∙ div-add-mod' i (t .width) in
     record {
-      choice = C ∙ ap (nearestColor cs) B;
+      choice = subst (λ (o : NormalizedColor). Takes cs (nearestColor cs o) c) B C;
       passed = passed ∙ (λ q. map sixteenths (sends zs (residualsOf (B q .0) (N q .0)) (kernelOf (t .kind)) (t .width) (t .height) (at q)));
     }
 
@@ -99,9 +106,10 @@ module _ (t : Ditherer) (zero : ColorZero) (l : Lent) (i : ℕ) where
   abbrev here : NormalizedColor → ReducedColor
   here = colorAt (candidatesLent l) (t .kind) (t .«bracket_width») (t .«origin_x» + i % t .width) (t .«origin_y» + i / t .width)
 
-  pub plain-is : (color : NormalizedColor) (c : ReducedColor) → isSkipped zero (reducedLent l i) ≡ false → isDiffusion (t .kind) ≡ false
-      → color ≡ sourceAt (l .pixels) i → c ≡ here color → c ≡ drawn (drawingOf t zero l) i
-  plain-is color c s k own chosen = chosen ∙ ap here own ∙ sym (drawn-plain (drawingOf t zero l) i s k)
+  pub plain-is : (color : NormalizedColor) (c : Choice) → isSkipped zero (reducedLent l i) ≡ false → isDiffusion (t .kind) ≡ false
+      → color ≡ sourceAt (l .pixels) i → Takes (candidatesLent l) (here color) c → TakesAt (drawingOf t zero l) i c
+  plain-is color c s k own chosen =
+      takes-dithered (drawingOf t zero l) i c (here color) s (ap here own ∙ sym (drawn-plain (drawingOf t zero l) i s k)) chosen
 
 module _ {t : Ditherer} {zero : ColorZero} {l : Lent} (ready : Ready t zero l) (i : ℕ) (inside : i < t .width * t .height) where
   pub choosable : isSkipped zero (reducedLent l i) ≡ false → Choosable (l .colors) (l .scale) (l .oklab) (l .count)

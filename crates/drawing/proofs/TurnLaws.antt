@@ -18,6 +18,7 @@ use Rattle.color.specs.Tables.{normalizeColor}
 use Rattle.patterns.specs.Kernel.{Target}
 use Rattle.patterns.specs.Kinds.{isDiffusion, kernelOf}
 use Rattle.patterns.proofs.Kernels.{kernel-later, kernel-total}
+use Rattle.lookup.specs.declared.Choice.{Choice}
 use Rattle.diffusion.specs.Biased.{biasedColor}
 use Rattle.diffusion.specs.Diffusion.{Picture}
 use Rattle.diffusion.specs.Scatter.{sends, scatter, cellBuffer}
@@ -27,8 +28,10 @@ use Rattle.drawing.specs.declared.ColorZero.{ColorZero}
 use Rattle.drawing.specs.declared.Ditherer.{Ditherer}
 use Rattle.drawing.specs.Drawing.{Drawing, nearestColor, pictureOf, biasedIn, biasedAt, drawn}
 use Rattle.drawing.specs.Lent.{Lent, drawingOf, cellsAfter}
+use Rattle.drawing.specs.Positions.{TakesAt}
 use Rattle.drawing.specs.Turns.{Diffused, cellsBefore}
 use Rattle.drawing.proofs.DrawnLaws.{drawn-diffused}
+use Rattle.drawing.proofs.PositionLaws.{takes-dithered}
 
 -- a normalised byte is an entry of the table, or 0
 scaled-byte : (scale : List ℕ) → ((v : ℕ) → getD scale v 0 ≤ 255) → (a : ℕ) (c : ReducedColor) → byteIn a (normalizeColor scale c .0) ≤ 255
@@ -89,21 +92,23 @@ module _ (t : Ditherer) (zero : ColorZero) (l : Lent) where
   -- a dithered pixel: what it chose, and the cells that it left
   module _ (i : ℕ) (inside : i < t .width * t .height) (dithers : d .skipped i ≡ false) (diffuses : isDiffusion (t .kind) ≡ true)
       (color : NormalizedColor) (own : color ≡ d .source i)
-      (c : ReducedColor) (cells : List Float) (made : Diffused t (d .candidates) (l .scale) (before i) i color c cells) where
-    pub turn-choice : c ≡ drawn d i
-    turn-choice =
-        made .choice
-        ∙ ap (λ (x : NormalizedColor). nearestColor (d .candidates) (biasedColor x (before i) i)) own
+      (c : Choice) (cells : List Float) (made : Diffused t (d .candidates) (l .scale) (before i) i color c cells) where
+    nearest-drawn : nearestColor (d .candidates) (biasedColor color (before i) i) ≡ drawn d i
+    nearest-drawn =
+        ap (λ (x : NormalizedColor). nearestColor (d .candidates) (biasedColor x (before i) i)) own
         ∙ ap (nearestColor (d .candidates)) (turn-biased d i inside)
         ∙ sym (drawn-diffused d i dithers diffuses)
+
+    pub turn-choice : TakesAt d i c
+    turn-choice = takes-dithered d i c _ dithers nearest-drawn (made .choice)
 
     pub turn-passed : cells ≡ cellsBefore d (i + 1)
     unfolding cellsBefore
     turn-passed =
-        step-dithered k′ (pictureOf d (drawn d)) i (i % t .width) (i / t .width) color (normalizeColor (l .scale) c) cells (div-add-mod' i (t .width))
+        step-dithered k′ (pictureOf d (drawn d)) i (i % t .width) (i / t .width) color (normalizeColor (l .scale) (c .color)) cells (div-add-mod' i (t .width))
         (ap not dithers)
         (λ a A. ap (λ (x : NormalizedColor). byteIn a (x .0)) (sym own))
-        (λ a A. ap (λ (x : ReducedColor). byteIn a (normalizeColor (l .scale) x .0)) (sym turn-choice))
+        (λ a A. ap (λ (x : ReducedColor). byteIn a (normalizeColor (l .scale) x .0)) (sym (turn-choice .color)))
         (made .passed ∙ ap passedTo (sym (div-add-mod' i (t .width))))
       where
         k′ : List Target
@@ -112,4 +117,4 @@ module _ (t : Ditherer) (zero : ColorZero) (l : Lent) where
         -- the cells, where the residual is passed on from pixel j
         passedTo : ℕ → List Float
         passedTo j =
-            map sixteenths (sends (before i) (residualsOf (biasedColor color (before i) i .0) (normalizeColor (l .scale) c .0)) k′ (t .width) (t .height) j)
+            map sixteenths (sends (before i) (residualsOf (biasedColor color (before i) i .0) (normalizeColor (l .scale) (c .color) .0)) k′ (t .width) (t .height) j)

@@ -9,11 +9,12 @@ use lib.ListN.{length}
 use lib.Ieee.{Float}
 use Rattle.floats.specs.Over.{sixteenths}
 use Rattle.color.specs.declared.NormalizedColor.{NormalizedColor}
-use Rattle.color.specs.declared.ReducedColor.{ReducedColor}
 use Rattle.color.specs.Tables.{normalizeColor}
 use Rattle.conversion.specs.Linear.{values}
 use Rattle.patterns.specs.Kinds.{isOrdered, kernelOf}
 use Rattle.shortlist.specs.Candidates.{Candidates, RangedList}
+use Rattle.lookup.specs.declared.Choice.{Choice}
+use Rattle.lookup.specs.Positions.{Takes}
 use Rattle.remembered.specs.Table.{nearestAlone, TableOf}
 use Rattle.remembered.specs.Shorts.{TableAndRows}
 use Rattle.diffusion.specs.Biased.{biasedColor}
@@ -44,10 +45,11 @@ pub record Inside (t : Ditherer) (i : ℕ) : Type 0 where
 -- pixel i of that colour, whose cells are among the sixteenths zs: c is the nearest to its biased colour, and the cells are those after the
 -- biased colour's residual is passed on
 pub record Diffused (t : Ditherer) (cs : Candidates) (scale : List ℕ) (zs : List ℤ) (i : ℕ) (color : NormalizedColor)
-    (c : ReducedColor) (cells : List Float) : Type 0 where
-  pub choice : c ≡ nearestColor cs (biasedColor color zs i)
+    (c : Choice) (cells : List Float) : Type 0 where
+  pub choice : Takes cs (nearestColor cs (biasedColor color zs i)) c
   pub passed :
-      cells ≡ map sixteenths (sends zs (residualsOf (biasedColor color zs i .0) (normalizeColor scale c .0)) (kernelOf (t .kind)) (t .width) (t .height) i)
+      cells
+      ≡ map sixteenths (sends zs (residualsOf (biasedColor color zs i .0) (normalizeColor scale (c .color) .0)) (kernelOf (t .kind)) (t .width) (t .height) i)
 
 -- the cells when pixel i's turn comes, under a diffusion kind
 unfoldable pub cellsBefore : Drawing → ℕ → List Float

@@ -1,15 +1,17 @@
-// Drawing a picture: every pixel's choice, for all kinds of dithering, into a lent buffer as reduced bytes; and finishing it,
-// which gives the choices their full precision. Names are those of `Ditherer` in src/dither.rs; the error cells are lent.
+// Drawing a picture: every pixel's choice, for all kinds of dithering, into a lent buffer as reduced bytes, and its position
+// among the candidates into another; and finishing it, which gives the choices their full precision. Names are those of
+// `Ditherer` in src/dither.rs; the error cells are lent.
 use color::NormalizedColor;
 use color::ReducedColor;
 use lists::zero_floats;
+use lookup::Choice;
 use remembered::MEMORY;
 ghost use mathlib.Core.Path.{_≡_};
 ghost use mathlib.Core.Bool.{true, false};
 ghost use mathlib.Core.List.{List};
 ghost use Prim.Native.Nat.{_+_, _*_, _/_, _%_, _<_};
 ghost use lib.IntN.{ℤ};
-ghost use lib.ListN.{length};
+ghost use lib.ListN.{length, set};
 ghost use Rattle.floats.specs.Cells.{Cells};
 ghost use Rattle.patterns.specs.Kinds.{isOrdered, isDiffusion};
 ghost use Rattle.color.specs.Color.{reducedAt};
@@ -17,10 +19,12 @@ ghost use Rattle.color.specs.Tables.{normalizeColor};
 ghost use Rattle.color.specs.Oklab.{oklabAt};
 ghost use Rattle.picture.specs.Pixels.{reducedBy};
 ghost use Rattle.shortlist.specs.Candidates.{scaled};
+ghost use Rattle.lookup.specs.Positions.{Takes};
 ghost use Rattle.remembered.specs.Table.{nearestAlone, TableOf};
 ghost use Rattle.remembered.specs.Shorts.{TableAndRows};
-ghost use Rattle.drawing.specs.Drawing.{nearestColor, orderedColor, colorAt, drawn};
+ghost use Rattle.drawing.specs.Drawing.{nearestColor, orderedColor, colorAt};
 ghost use Rattle.drawing.specs.Lent.{isZero, isSkipped, lent, candidatesLent, drawingOf, reducedBytes, cellsAfter, Ready};
+ghost use Rattle.drawing.specs.Positions.{TakesAt, PositionsAfter};
 ghost use Rattle.drawing.specs.Turns.{Linear, Choosable, Inside, Diffused, cellsBefore, Remembers};
 ghost use Rattle.drawing.specs.Finished.{finished, finishedBytes, Finishable};
 
@@ -59,7 +63,7 @@ fn is_skipped(zero: ColorZero, c: ReducedColor) -> bool
 
 // ---- one colour
 
-// The reduced colour of the nearest candidate. No public call: the caller sees to the table, the candidates and the memory.
+// The nearest candidate. No public call: the caller sees to the table, the candidates and the memory.
 fn nearest_color(
     linear: &[u32; 256],
     colors: &[u8],
@@ -68,14 +72,36 @@ fn nearest_color(
     count: usize,
     color: NormalizedColor,
     memory: &mut [u64; MEMORY],
-) -> ReducedColor
+) -> Choice
     requires { ⌜ Linear (now linear) × Choosable (now colors) (now scale) (now oklab) count
         × TableOf (nearestAlone (oklabAt (now oklab)) count) (now memory) ⌝ }
-    ensures { λ c. ⌜ (c ≡ nearestColor (scaled (now (colors .entry)) (now (scale .entry)) (now (oklab .entry)) count) color)
+    ensures { λ c. ⌜ (let cs = scaled (now (colors .entry)) (now (scale .entry)) (now (oklab .entry)) count in Takes cs (nearestColor cs color) c)
         × TableOf (nearestAlone (oklabAt (now (oklab .entry))) count) (now (memory .exit)) ⌝ }
 {
     let k = remembered::nearest_position(linear, oklab, count, color, memory);
-    ReducedColor(color::rgba_at(colors, k))
+    Choice {
+        color: ReducedColor(color::rgba_at(colors, k)),
+        position: k,
+    }
+}
+
+// What a skipped pixel keeps: its reduced colour; 0 stands for its position.
+fn keeping(c: ReducedColor) -> Choice
+    ensures { λ r. ⌜ (r .color ≡ c) × (r .position ≡ 0) ⌝ }
+{
+    Choice {
+        color: c,
+        position: 0,
+    }
+}
+
+// Notes pixel i's position, where there is room for it. No public call: what has no room is lost.
+fn note_position(indices: &mut [u8], i: usize, position: usize)
+    ensures { λ _. ⌜ now (indices .exit) ≡ set (now (indices .entry)) i (position % 256) ⌝ }
+{
+    if i < indices.len() {
+        indices[i] = (position % 256) as u8;
+    }
 }
 
 impl Ditherer {
@@ -123,11 +149,11 @@ impl Ditherer {
         i: usize,
         color: NormalizedColor,
         memory: &mut [u64; MEMORY],
-    ) -> ReducedColor
+    ) -> Choice
         requires { ⌜ Linear (now linear) × Choosable (now colors) (now scale) (now oklab) count × Inside self i × (isOrdered (self .kind) ≡ true)
             × TableAndRows (scaled (now colors) (now scale) (now oklab) count) (self .«bracket_width») (now memory) ⌝ }
         ensures { λ c. ⌜ (let cs = scaled (now (colors .entry)) (now (scale .entry)) (now (oklab .entry)) count in
-            (c ≡ orderedColor cs (self .kind) (self .«bracket_width») (self .«origin_x» + i % self .width) (self .«origin_y» + i / self .width) color)
+            Takes cs (orderedColor cs (self .kind) (self .«bracket_width») (self .«origin_x» + i % self .width) (self .«origin_y» + i / self .width) color) c
             × TableAndRows cs (self .«bracket_width») (now (memory .exit))) ⌝ }
     {
         let width = self.bracket_width;
@@ -159,11 +185,11 @@ impl Ditherer {
         i: usize,
         color: NormalizedColor,
         memory: &mut [u64; MEMORY],
-    ) -> ReducedColor
+    ) -> Choice
         requires { ⌜ Linear (now linear) × Choosable (now colors) (now scale) (now oklab) count × Inside self i
             × Remembers self (scaled (now colors) (now scale) (now oklab) count) (now memory) ⌝ }
         ensures { λ c. ⌜ (let cs = scaled (now (colors .entry)) (now (scale .entry)) (now (oklab .entry)) count in
-            (c ≡ colorAt cs (self .kind) (self .«bracket_width») (self .«origin_x» + i % self .width) (self .«origin_y» + i / self .width) color)
+            Takes cs (colorAt cs (self .kind) (self .«bracket_width») (self .«origin_x» + i % self .width) (self .«origin_y» + i / self .width) color) c
             × Remembers self cs (now (memory .exit))) ⌝ }
     {
         if patterns::is_ordered(self.kind) {
@@ -185,7 +211,7 @@ impl Ditherer {
         color: NormalizedColor,
         memory: &mut [u64; MEMORY],
         cells: &mut [f32],
-    ) -> ReducedColor
+    ) -> Choice
         requires { ⌜ Linear (now linear) × Choosable (now colors) (now scale) (now oklab) count × Inside self i × (isDiffusion (self .kind) ≡ true)
             × (length (now cells) ≡ 3 * (self .width * self .height)) × ((zs : List ℤ) × Cells 4080 (now cells) zs)
             × TableOf (nearestAlone (oklabAt (now oklab)) count) (now memory) ⌝ }
@@ -195,7 +221,7 @@ impl Ditherer {
     {
         let biased = diffusion::biased_color(cells, i, color);
         let chosen = nearest_color(linear, colors, scale, oklab, count, biased, memory);
-        let normalized = color::normalize_color(scale, chosen);
+        let normalized = color::normalize_color(scale, chosen.color);
         let x = self.column(i);
         let y = self.row(i);
         diffusion::diffuse_residual(
@@ -226,16 +252,16 @@ impl Ditherer {
         count: usize,
         i: usize,
         memory: &mut [u64; MEMORY],
-    ) -> ReducedColor
+    ) -> Choice
         requires { ⌜ (let l = lent (now reduction) (now scale) (now pixels) (now colors) (now oklab) count in
             Linear (now linear) × Ready self zero l × (isDiffusion (self .kind) ≡ false) × (i < self .width * self .height)
             × Remembers self (candidatesLent l) (now memory)) ⌝ }
         ensures { λ c. ⌜ (let l = lent (now (reduction .entry)) (now (scale .entry)) (now (pixels .entry)) (now (colors .entry)) (now (oklab .entry)) count in
-            (c ≡ drawn (drawingOf self zero l) i) × Remembers self (candidatesLent l) (now (memory .exit))) ⌝ }
+            TakesAt (drawingOf self zero l) i c × Remembers self (candidatesLent l) (now (memory .exit))) ⌝ }
     {
         let kept = picture::reduced_at(reduction, pixels, i);
         if is_skipped(zero, kept) {
-            return kept;
+            return keeping(kept);
         }
         let color = picture::source_at(pixels, i);
         self.color_at(linear, colors, scale, oklab, count, i, color, memory)
@@ -256,18 +282,18 @@ impl Ditherer {
         i: usize,
         memory: &mut [u64; MEMORY],
         cells: &mut [f32],
-    ) -> ReducedColor
+    ) -> Choice
         requires { ⌜ (let l = lent (now reduction) (now scale) (now pixels) (now colors) (now oklab) count in
             Linear (now linear) × Ready self zero l × (isDiffusion (self .kind) ≡ true) × (i < self .width * self .height)
             × (now cells ≡ cellsBefore (drawingOf self zero l) i) × TableOf (nearestAlone (oklabAt (now oklab)) count) (now memory)) ⌝ }
         ensures { λ c. ⌜ (let d = drawingOf self zero
             (lent (now (reduction .entry)) (now (scale .entry)) (now (pixels .entry)) (now (colors .entry)) (now (oklab .entry)) count) in
-            (c ≡ drawn d i) × (now (cells .exit) ≡ cellsBefore d (i + 1))
+            TakesAt d i c × (now (cells .exit) ≡ cellsBefore d (i + 1))
             × TableOf (nearestAlone (oklabAt (now (oklab .entry))) count) (now (memory .exit))) ⌝ }
     {
         let own = picture::reduced_at(reduction, pixels, i);
         if is_skipped(zero, own) {
-            return own;
+            return keeping(own);
         }
         let color = picture::source_at(pixels, i);
         self.diffusion_color_at(linear, colors, scale, oklab, count, i, color, memory, cells)
@@ -287,13 +313,15 @@ impl Ditherer {
         oklab: &[f32],
         count: usize,
         memory: &mut [u64; MEMORY],
+        indices: &mut [u8],
         out: &mut [u8],
     )
         requires { ⌜ (let l = lent (now reduction) (now scale) (now pixels) (now colors) (now oklab) count in
             Linear (now linear) × Ready self zero l × (isDiffusion (self .kind) ≡ false) × (length (now out) ≡ 4 * (self .width * self .height))
             × Remembers self (candidatesLent l) (now memory)) ⌝ }
-        ensures { λ _. ⌜ now (out .exit) ≡ reducedBytes (drawingOf self zero
-            (lent (now (reduction .entry)) (now (scale .entry)) (now (pixels .entry)) (now (colors .entry)) (now (oklab .entry)) count)) ⌝ }
+        ensures { λ _. ⌜ (let d = drawingOf self zero
+            (lent (now (reduction .entry)) (now (scale .entry)) (now (pixels .entry)) (now (colors .entry)) (now (oklab .entry)) count) in
+            (now (out .exit) ≡ reducedBytes d) × PositionsAfter d (now (indices .entry)) (now (indices .exit))) ⌝ }
     {
         let size = self.width as usize * self.height as usize;
         let mut i = 0;
@@ -310,7 +338,8 @@ impl Ditherer {
                 i,
                 memory,
             );
-            color::put_rgba(out, i, c.0);
+            color::put_rgba(out, i, c.color.0);
+            note_position(indices, i, c.position);
             i += 1;
         }
     }
@@ -327,6 +356,7 @@ impl Ditherer {
         oklab: &[f32],
         count: usize,
         memory: &mut [u64; MEMORY],
+        indices: &mut [u8],
         out: &mut [u8],
         cells: &mut [f32],
     )
@@ -335,7 +365,8 @@ impl Ditherer {
             × (length (now cells) ≡ 3 * (self .width * self .height)) × TableOf (nearestAlone (oklabAt (now oklab)) count) (now memory) ⌝ }
         ensures { λ _. ⌜ (let d = drawingOf self zero
             (lent (now (reduction .entry)) (now (scale .entry)) (now (pixels .entry)) (now (colors .entry)) (now (oklab .entry)) count) in
-            (now (out .exit) ≡ reducedBytes d) × (now (cells .exit) ≡ cellsBefore d (self .width * self .height))) ⌝ }
+            (now (out .exit) ≡ reducedBytes d) × (now (cells .exit) ≡ cellsBefore d (self .width * self .height))
+            × PositionsAfter d (now (indices .entry)) (now (indices .exit))) ⌝ }
     {
         zero_floats(cells);
         let size = self.width as usize * self.height as usize;
@@ -354,13 +385,14 @@ impl Ditherer {
                 memory,
                 cells,
             );
-            color::put_rgba(out, i, chosen.0);
+            color::put_rgba(out, i, chosen.color.0);
+            note_position(indices, i, chosen.position);
             i += 1;
         }
     }
 
-    // Draws the picture: every pixel's choice, as reduced bytes, and the cells of a diffusion kind. No public call: the
-    // caller sees to what is lent.
+    // Draws the picture: every pixel's choice, as reduced bytes, its position where there is room for positions, a byte a
+    // pixel, and the cells of a diffusion kind. No public call: the caller sees to what is lent.
     pub fn draw(
         self,
         zero: ColorZero,
@@ -371,6 +403,7 @@ impl Ditherer {
         colors: &[u8],
         oklab: &[f32],
         count: usize,
+        indices: &mut [u8],
         out: &mut [u8],
         cells: &mut [f32],
     )
@@ -379,7 +412,8 @@ impl Ditherer {
             × (isDiffusion (self .kind) ≡ true → length (now cells) ≡ 3 * (self .width * self .height)) ⌝ }
         ensures { λ _. ⌜ (let d = drawingOf self zero
             (lent (now (reduction .entry)) (now (scale .entry)) (now (pixels .entry)) (now (colors .entry)) (now (oklab .entry)) count) in
-            (now (out .exit) ≡ reducedBytes d) × (now (cells .exit) ≡ cellsAfter d (now (cells .entry)))) ⌝ }
+            (now (out .exit) ≡ reducedBytes d) × (now (cells .exit) ≡ cellsAfter d (now (cells .entry)))
+            × PositionsAfter d (now (indices .entry)) (now (indices .exit))) ⌝ }
     {
         let mut memory = [0u64; MEMORY];
         if patterns::is_diffusion(self.kind) {
@@ -393,6 +427,7 @@ impl Ditherer {
                 oklab,
                 count,
                 &mut memory,
+                indices,
                 out,
                 cells,
             );
@@ -407,6 +442,7 @@ impl Ditherer {
                 oklab,
                 count,
                 &mut memory,
+                indices,
                 out,
             );
         }

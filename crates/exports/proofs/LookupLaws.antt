@@ -33,17 +33,19 @@ use Rattle.lookup.specs.declared.Found.{Found}
 use Rattle.lookup.specs.declared.Found.the-variants as found
 use Rattle.lookup.specs.declared.FoundTwo.{FoundTwo}
 use Rattle.lookup.specs.declared.FoundTwo.the-variants as two
+use Rattle.lookup.specs.declared.Bracket.{Bracket}
 use Rattle.lookup.specs.declared.FoundBracket.{FoundBracket}
 use Rattle.lookup.specs.declared.FoundBracket.the-variants as bracket
 use Rattle.lookup.specs.declared.Picked.{Picked}
 use Rattle.lookup.specs.declared.Picked.the-variants as picked
 use Rattle.lookup.proofs.ListLaws.{accepted}
 use Rattle.lookup.proofs.TwoLaws.{first-entry, second-entry}
-use Rattle.lookup.proofs.AnswerLaws.{nearest-given, two-given}
+use Rattle.lookup.proofs.AnswerLaws.{nearest-given, two-given, bracket-given}
+use Rattle.lookup.proofs.TakenLaws.{flat-ends}
 use Rattle.exports.specs.Answers.{opaqueRgb}
 use Rattle.exports.proofs.AnswerLaws.{of-rgb}
 use Rattle.exports.specs.Lookups.{secondOr, secondPosition, isFour, badgeBracketReplies, bracketRgb, bracketLeft, badgeOrderedBracket}
-use Rattle.exports.specs.Lookups.{badgePickReplies, pickRooms, pickedLeft, badgePick}
+use Rattle.exports.specs.Lookups.{badgePickReplies, bracketWithout, pickRooms, pickedLeft, badgePick}
 
 -- ---- positions: those of an answer x
 module _ (reduced normalized : List ℕ) (oklab : List Float) (color : NormalizedColor) where
@@ -67,6 +69,14 @@ module _ (reduced normalized : List ℕ) (oklab : List Float) (color : Normalize
       either : (m first : ℕ) → first < m → (s : Second) → ((k : ℕ) → s ≡ second.At k → k < m) → secondOr s first < m
       either m first i (second.At k) h = h k refl
       either m first i second.Nothing h = i
+
+  pub ends-small : (width : ℕ) {x : FoundBracket} {b : Bracket} → FlatBracket reduced normalized oklab color width x → x ≡ bracket.Of b
+      → (b .«dark_position» < 65536) × (b .«light_position» < 65536)
+  ends-small width {b = b} p q =
+      let a = subst (FlatBracket reduced normalized oklab color width) q p in
+      let A = accepted reduced normalized oklab (bracket-given reduced normalized oklab color width p q .0) in
+      let e = flat-ends reduced normalized oklab color width a in
+      (omega (arith, A .few, e .0), omega (arith, A .few, e .1))
 
 -- ---- the answer x for an opaque colour is that for its three bytes
 module _ (reduced normalized : List ℕ) (oklab : List Float) (r g b : ℕ) (color : NormalizedColor) (c : color .0 ≡ rgba r g b 255) where
@@ -133,22 +143,23 @@ module _ (dark light : List ℕ) (ratio : Float) (kind x y : ℕ) (chosen : List
 
     -- `pick`'s answer p, asked of the two colours read, that is the case q
     pub pick-is : not rooms ≡ false → (d l : ReducedColor) → d ≡ reducedAt dark 0 → l ≡ reducedAt light 0 → (p q : Picked)
-        → PickedAt (record { dark = d; light = l; ratio = ratio }) kind x y p → p ≡ q → pickRooms dark light ratio kind x y chosen ≡ q
+        → PickedAt (bracketWithout d l ratio) kind x y p → p ≡ q → pickRooms dark light ratio kind x y chosen ≡ q
     unfolding pickRooms
     pick-is e d l D L p q a b =
         let number : firstReply (badgePickReplies dark light kind chosen) ≡ firstReply (thresholdReplies kind) = rw (known, e) in
-        (λ i. pickAnswer (record { dark = sym D i; light = sym L i; ratio = ratio }) kind x y (number i)) ∙ sym (answered _ _ _ a) ∙ b
+        (λ i. pickAnswer (bracketWithout (sym D i) (sym L i) ratio) kind x y (number i)) ∙ sym (answered _ _ _ a) ∙ b
 
 -- ---- the numbers are the lowest that apply
 
-pub bracket-lowest : (reduced normalized : List ℕ) (oklab : List Float) (r g b width : ℕ) (dark light : List ℕ) (ratio : Float)
-    → Lowest (badgeBracketReplies reduced normalized oklab dark light) (badgeOrderedBracket reduced normalized oklab r g b width dark light ratio .0)
+pub bracket-lowest : (reduced normalized : List ℕ) (oklab : List Float) (r g b width : ℕ) (dark light : List ℕ) (ratio : Float) (darkAt lightAt : ℕ)
+    → Lowest (badgeBracketReplies reduced normalized oklab dark light)
+    (badgeOrderedBracket reduced normalized oklab r g b width dark light ratio darkAt lightAt .0)
 unfolding bracketRgb
-bracket-lowest reduced normalized oklab r g b width dark light ratio =
+bracket-lowest reduced normalized oklab r g b width dark light ratio darkAt lightAt =
     let replies = badgeBracketReplies reduced normalized oklab dark light in
     subst (Lowest replies) (sym (number (firstReply replies))) (lowest-is replies tt)
   where
-    number : (n : ℕ) → bracketLeft dark light ratio (bracketAnswer reduced normalized oklab (opaqueRgb r g b) width n) .0 ≡ n
+    number : (n : ℕ) → bracketLeft dark light ratio darkAt lightAt (bracketAnswer reduced normalized oklab (opaqueRgb r g b) width n) .0 ≡ n
     number zero = refl
     number (suc n) = refl
 
@@ -159,6 +170,6 @@ pick-lowest dark light ratio kind x y chosen =
     let replies = badgePickReplies dark light kind chosen in
     subst (Lowest replies) (sym (number (firstReply replies))) (lowest-is replies tt)
   where
-    number : (n : ℕ) → pickedLeft chosen (pickAnswer (record { dark = reducedAt dark 0; light = reducedAt light 0; ratio = ratio }) kind x y n) .0 ≡ n
+    number : (n : ℕ) → pickedLeft chosen (pickAnswer (bracketWithout (reducedAt dark 0) (reducedAt light 0) ratio) kind x y n) .0 ≡ n
     number zero = refl
     number (suc n) = refl

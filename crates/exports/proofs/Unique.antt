@@ -8,7 +8,7 @@ use Rattle.candidates.specs.Calls.{Asked}
 use Rattle.quantize.specs.Quantize.{Commission}
 use Rattle.dither.specs.Mode as mode
 use Rattle.exports.specs.Answers.{PromisedToOklab, PromisedOklabSqdist, PromisedOrderedThreshold, PromisedBracketWidth, PromisedLerp}
-use Rattle.exports.specs.Lookups.{PromisedNearest, PromisedNearestTwo, PromisedOrderedBracket, PromisedPick}
+use Rattle.exports.specs.Lookups.{PromisedNearest, PromisedNearestTwo, BracketLeft, PromisedOrderedBracket, PromisedPick}
 use Rattle.exports.specs.Files.{PromisedPamSize, PromisedReadPam, PromisedPamLength, PromisedWritePam}
 use Rattle.exports.specs.Pictures.{PromisedCandidateColorsIn, PromisedQuantizePixels, PromisedDitherToMode}
 
@@ -34,9 +34,9 @@ module _ (reduced normalized : List ℕ) (oklab : List Float) (r g b : ℕ) wher
   pub badge-nearest-two-unique : (width first second : ℕ) → Unique (λ (x : ℕ × ℕ × ℕ). PromisedNearestTwo reduced normalized oklab r g b width first second x)
   badge-nearest-two-unique width first second = equal-only _
 
-  pub badge-ordered-bracket-unique : (width : ℕ) (dark light : List ℕ) (ratio : Float)
-      → Unique (λ (x : ℕ × List ℕ × List ℕ × Float). PromisedOrderedBracket reduced normalized oklab r g b width dark light ratio x)
-  badge-ordered-bracket-unique width dark light ratio = equal-only _
+  pub badge-ordered-bracket-unique : (width : ℕ) (dark light : List ℕ) (ratio : Float) (darkAt lightAt : ℕ)
+      → Unique (λ (x : BracketLeft). PromisedOrderedBracket reduced normalized oklab r g b width dark light ratio darkAt lightAt x)
+  badge-ordered-bracket-unique width dark light ratio darkAt lightAt = equal-only _
 
 pub badge-pick-unique : (dark light : List ℕ) (ratio : Float) (kind column row : ℕ) (chosen : List ℕ)
     → Unique (λ (x : ℕ × List ℕ). PromisedPick dark light ratio kind column row chosen x)

@@ -1,7 +1,8 @@
 -- What the lookups and `pick` answer through the C interface and leave behind their pointers and in their buffers: the answer's on acceptance, and
 -- otherwise what was there; the number is the one that the answer's own definition gives (`numberOf` and the three beside it). The result is the
 -- definition that has the call's name, and that it is so is the call's promise. Definitions only.
--- Written from document 01, "Bounds and replies": "The lowest number that applies is given", "A refusal returns no colour", "all unchanged".
+-- Written from document 01, "Bounds and replies": "The lowest number that applies is given", "A refusal returns no colour", "all unchanged"; and document
+-- 02, Ask 4: "the bracket should answer with the taken records' positions besides the colours".
 use mathlib.Core.Path.{_≡_}
 use Prim.Native.Nat.{ℕ}
 use mathlib.Core.List.{List, [], _∷_}
@@ -10,6 +11,7 @@ use lib.Dec.{eqb}
 use lib.ListN.{length}
 use lib.Ieee.{Float}
 use Rattle.replies.specs.Replies.{Reply, _if_, firstReply}
+use Rattle.color.specs.declared.ReducedColor.{ReducedColor}
 use Rattle.color.specs.Color.{reducedAt, bytesOf}
 use Rattle.patterns.specs.Kinds.{isKind, isOrdered}
 use Rattle.lookup.specs.Lists.{listReplies}
@@ -23,6 +25,7 @@ use Rattle.lookup.specs.declared.FoundTwo.{FoundTwo}
 use Rattle.lookup.specs.declared.FoundTwo.the-variants as two
 use Rattle.lookup.specs.declared.FoundBracket.{FoundBracket}
 use Rattle.lookup.specs.declared.FoundBracket.the-variants as bracket
+use Rattle.lookup.specs.declared.Bracket.{Bracket}
 use Rattle.lookup.specs.declared.Picked.{Picked}
 use Rattle.lookup.specs.declared.Picked.the-variants as picked
 use Rattle.exports.specs.Answers.{opaqueRgb}
@@ -61,7 +64,7 @@ badgeNearestTwo reduced normalized oklab r g b width first second =
 abbrev pub PromisedNearestTwo : (reduced normalized : List ℕ) → List Float → (r g b width first second : ℕ) → ℕ × ℕ × ℕ → Type 0
 PromisedNearestTwo reduced normalized oklab r g b width first second left = left ≡ badgeNearestTwo reduced normalized oklab r g b width first second
 
--- ---- `badge_ordered_bracket`: the number, the bytes of dark and of light, and the share of light
+-- ---- `badge_ordered_bracket`: the number, the bytes of dark and of light, the share of light, and the positions of dark and of light
 -- a colour is four bytes
 abbrev pub isFour : List ℕ → Bool
 isFour bytes = eqb (length bytes) 4
@@ -75,18 +78,24 @@ unfoldable pub bracketRgb : (reduced normalized : List ℕ) → List Float → (
 bracketRgb reduced normalized oklab r g b width dark light =
     bracketAnswer reduced normalized oklab (opaqueRgb r g b) width (firstReply (badgeBracketReplies reduced normalized oklab dark light))
 
-abbrev pub bracketLeft : (dark light : List ℕ) → Float → FoundBracket → ℕ × List ℕ × List ℕ × Float
-bracketLeft dark light ratio (bracket.Of b) = (numberOfBracket (bracket.Of b), bytesOf (b .dark .0), bytesOf (b .light .0), b .ratio)
-bracketLeft dark light ratio (bracket.Refused n) = (numberOfBracket (bracket.Refused n), dark, light, ratio)
+-- what is there afterwards, where dark, light, ratio and the two positions were lent
+abbrev pub BracketLeft : Type 0
+BracketLeft = ℕ × List ℕ × List ℕ × Float × ℕ × ℕ
 
-abbrev pub badgeOrderedBracket : (reduced normalized : List ℕ) → List Float → (r g b width : ℕ) → (dark light : List ℕ) → Float → ℕ × List ℕ × List ℕ × Float
-badgeOrderedBracket reduced normalized oklab r g b width dark light ratio =
-    bracketLeft dark light ratio (bracketRgb reduced normalized oklab r g b width dark light)
+abbrev pub bracketLeft : (dark light : List ℕ) → Float → (darkAt lightAt : ℕ) → FoundBracket → BracketLeft
+bracketLeft dark light ratio darkAt lightAt (bracket.Of b) =
+    (numberOfBracket (bracket.Of b), bytesOf (b .dark .0), bytesOf (b .light .0), b .ratio, b .«dark_position», b .«light_position»)
+bracketLeft dark light ratio darkAt lightAt (bracket.Refused n) = (numberOfBracket (bracket.Refused n), dark, light, ratio, darkAt, lightAt)
 
-abbrev pub PromisedOrderedBracket : (reduced normalized : List ℕ) → List Float → (r g b width : ℕ) → (dark light : List ℕ) → Float
-    → ℕ × List ℕ × List ℕ × Float → Type 0
-PromisedOrderedBracket reduced normalized oklab r g b width dark light ratio left =
-    left ≡ badgeOrderedBracket reduced normalized oklab r g b width dark light ratio
+abbrev pub badgeOrderedBracket : (reduced normalized : List ℕ) → List Float → (r g b width : ℕ) → (dark light : List ℕ) → Float → (darkAt lightAt : ℕ)
+    → BracketLeft
+badgeOrderedBracket reduced normalized oklab r g b width dark light ratio darkAt lightAt =
+    bracketLeft dark light ratio darkAt lightAt (bracketRgb reduced normalized oklab r g b width dark light)
+
+abbrev pub PromisedOrderedBracket : (reduced normalized : List ℕ) → List Float → (r g b width : ℕ) → (dark light : List ℕ) → Float → (darkAt lightAt : ℕ)
+    → BracketLeft → Type 0
+PromisedOrderedBracket reduced normalized oklab r g b width dark light ratio darkAt lightAt left =
+    left ≡ badgeOrderedBracket reduced normalized oklab r g b width dark light ratio darkAt lightAt
 
 -- ---- `badge_pick`: the number, and the bytes of the colour picked
 -- the numbers, and when each applies: those of `pick`, and 3 for a wrong length of dark, light or chosen
@@ -97,13 +106,17 @@ badgePickReplies dark light kind chosen =
     ∷ (9 if not (isOrdered kind))
     ∷ []
 
+-- two colours as a bracket: of positions nothing is asked, and none is answered
+abbrev pub bracketWithout : ReducedColor → ReducedColor → Float → Bracket
+bracketWithout dark light ratio = record { dark = dark; light = light; ratio = ratio; «dark_position» = 0; «light_position» = 0 }
+
 -- what is answered for dark and light as bytes, and a room for the chosen colour
 unfoldable pub pickRooms : (dark light : List ℕ) → Float → (kind x y : ℕ) → (chosen : List ℕ) → Picked
 pickRooms dark light ratio kind x y chosen =
-    pickAnswer (record { dark = reducedAt dark 0; light = reducedAt light 0; ratio = ratio }) kind x y (firstReply (badgePickReplies dark light kind chosen))
+    pickAnswer (bracketWithout (reducedAt dark 0) (reducedAt light 0) ratio) kind x y (firstReply (badgePickReplies dark light kind chosen))
 
 abbrev pub pickedLeft : List ℕ → Picked → ℕ × List ℕ
-pickedLeft was (picked.Color c) = (numberOfPicked (picked.Color c), bytesOf (c .0))
+pickedLeft was (picked.Of c) = (numberOfPicked (picked.Of c), bytesOf (c .color .0))
 pickedLeft was (picked.Refused n) = (numberOfPicked (picked.Refused n), was)
 
 abbrev pub badgePick : (dark light : List ℕ) → Float → (kind x y : ℕ) → List ℕ → ℕ × List ℕ

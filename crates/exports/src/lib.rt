@@ -216,7 +216,7 @@ fn put_color(bytes: &mut [u8], color: ReducedColor)
     put_rgba(bytes, 0, color.0);
 }
 
-// The two colours that an ordered dither alternates between, and the share of the lighter; 3, 4 and 6.
+// The two colours that an ordered dither alternates between, the share of the lighter, and the positions of both; 3, 4 and 6.
 #[no_mangle]
 pub extern "C" fn badge_ordered_bracket(
     reduced: &[u8],
@@ -229,9 +229,12 @@ pub extern "C" fn badge_ordered_bracket(
     dark: &mut [u8],
     light: &mut [u8],
     ratio: &mut f32,
+    dark_position: &mut u32,
+    light_position: &mut u32,
 ) -> u32
     ensures { λ n. ⌜ PromisedOrderedBracket (now (reduced .entry)) (now (normalized .entry)) (now (oklab .entry)) r g b width
-        (now (dark .entry)) (now (light .entry)) (now (ratio .entry)) (n, now (dark .exit), now (light .exit), now (ratio .exit)) ⌝ }
+        (now (dark .entry)) (now (light .entry)) (now (ratio .entry)) (now («dark_position» .entry)) (now («light_position» .entry))
+        (n, now (dark .exit), now (light .exit), now (ratio .exit), now («dark_position» .exit), now («light_position» .exit)) ⌝ }
 {
     if !((dark.len() == 4) & (light.len() == 4)) {
         return 3;
@@ -239,16 +242,20 @@ pub extern "C" fn badge_ordered_bracket(
     let color = NormalizedColor::new(r, g, b, 255);
     match lookup::flat_ordered_bracket(reduced, normalized, oklab, color, width) {
         FoundBracket::Of(bracket) => {
+            let dark_at = bracket.dark_position as u32;
+            let light_at = bracket.light_position as u32;
             put_color(dark, bracket.dark);
             put_color(light, bracket.light);
             *ratio = bracket.ratio;
+            *dark_position = dark_at;
+            *light_position = light_at;
             0
         }
         FoundBracket::Refused(number) => number as u32,
     }
 }
 
-// What is picked of two colours at column x and row y; 1, 3 and 9.
+// What is picked of two colours at column x and row y; 1, 3 and 9. It is asked with colours: positions play no part.
 #[no_mangle]
 pub extern "C" fn badge_pick(
     dark: &[u8],
@@ -271,10 +278,12 @@ pub extern "C" fn badge_pick(
         dark: color_in(dark),
         light: color_in(light),
         ratio: ratio,
+        dark_position: 0,
+        light_position: 0,
     };
     match lookup::pick(bracket, kind, x, y) {
-        Picked::Color(color) => {
-            put_color(chosen, color);
+        Picked::Of(choice) => {
+            put_color(chosen, choice.color);
             0
         }
         Picked::Refused(number) => number as u32,

@@ -1,6 +1,7 @@
--- `leastOf` is the first of the least, and nothing else is; a step of it, and many at once. The steps hold of any comparison. Assumes nothing.
-use mathlib.Core.Path.{_≡_, refl, sym, _∙_, ap}
-use mathlib.Core.Logic.{⊎-elim}
+-- `leastOf` is the first of the least, and nothing else is; a step of it, and many at once. The steps hold of any comparison, and that no earlier value is
+-- the same holds of any that is irreflexive and transitive (`no-earlier`). Assumes nothing.
+use mathlib.Core.Path.{_≡_, refl, sym, _∙_, ap, subst}
+use mathlib.Core.Logic.{inl, inr, ⊎-elim}
 use mathlib.Core.Bool.{Bool, true, false, cond, not}
 use Prim.Native.Nat.{ℕ, zero, suc, _+_, _≤_, _<_}
 use native.Mathlib.Nat.{le-antisymm, lt-of-not-le, eq-or-lt-of-le, le-of-suc-le-suc, not-suc-le-zero}
@@ -53,6 +54,39 @@ least-same less d e (suc n) h =
     let same : leastOf less d n ≡ leastOf less e n = least-same less d e n (λ k l. h k (omega arith)) in
     let there : d (leastOf less d n) ≡ e (leastOf less e n) = h (leastOf less d n) (omega (arith, at-most less d n)) ∙ ap e same in
     λ i. cond (less (h n (omega arith) i) (there i)) n (same i)
+
+-- ---- by a comparison that is irreflexive and transitive, as `<` is on all floats: no value is less, and no earlier one is the same
+module _ {A : Type 0} (less : A → A → Bool) (irreflexive : (x : A) → T (less x x) → ⊥)
+    (transitive : (x y z : A) → T (less x y) → T (less y z) → T (less x z)) (d : ℕ → A) where
+  none-less : (n k : ℕ) → k < n → T (less (d k) (d (leastOf less d n))) → ⊥
+  unfolding leastOf
+  none-less zero k h = absurd (not-suc-le-zero h)
+  none-less (suc n) k h = go (less (d n) (d r)) refl (none-less n k)
+    where
+      r : ℕ
+      r = leastOf less d n
+
+      go : (t : Bool) → less (d n) (d r) ≡ t → (k < n → T (less (d k) (d r)) → ⊥) → T (less (d k) (d (cond t n r))) → ⊥
+      go true e before s = elim (eq-or-lt-of-le (le-of-suc-le-suc h)) [
+        | inl q ↦ irreflexive (d n) (subst (λ (j : ℕ). T (less (d j) (d n))) q s)
+        | inr l ↦ before l (transitive (d k) (d n) (d r) s (holds e))
+      ]
+      go false e before s = elim (eq-or-lt-of-le (le-of-suc-le-suc h)) [
+        | inl q ↦ T-not (less (d n) (d r)) (fails e) (subst (λ (j : ℕ). T (less (d j) (d r))) q s)
+        | inr l ↦ before l s
+      ]
+
+  pub no-earlier : (n k : ℕ) → k < leastOf less d n → d k ≡ d (leastOf less d n) → ⊥
+  unfolding leastOf
+  no-earlier zero k = λ h. absurd (not-suc-le-zero h)
+  no-earlier (suc n) k = go (less (d n) (d r)) refl (no-earlier n k)
+    where
+      r : ℕ
+      r = leastOf less d n
+
+      go : (t : Bool) → less (d n) (d r) ≡ t → (k < r → d k ≡ d r → ⊥) → k < cond t n r → d k ≡ d (cond t n r) → ⊥
+      go true q before h e = none-less n k h (subst (λ (x : A). T (less x (d r))) (sym e) (holds q))
+      go false q before h e = before h e
 
 -- ---- what it is
 module _ {A : Type 0} {less : A → A → Bool} {P : A → Type 0} (C : Comparison less P) where

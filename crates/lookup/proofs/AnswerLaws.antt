@@ -19,7 +19,6 @@ use Rattle.replies.proofs.ReplyLaws.{reply-none}
 use Rattle.replies.proofs.LowestLaws.{lowest-is}
 use Rattle.color.specs.declared.NormalizedColor.{NormalizedColor}
 use Rattle.color.specs.declared.Oklab.{Oklab}
-use Rattle.color.specs.declared.ReducedColor.{ReducedColor}
 use Rattle.color.specs.Color.{rgbaAt}
 use Rattle.color.specs.Oklab.{allInRange, oklabAt}
 use Rattle.color.proofs.Distances.{range-all-in}
@@ -29,17 +28,18 @@ use Rattle.mixing.specs.Lerp.{Bytes}
 use Rattle.patterns.specs.declared.Thresholded.{Thresholded}
 use Rattle.patterns.specs.declared.Thresholded.the-variants as thresholded
 use Rattle.patterns.specs.Thresholds as patterns
-use Rattle.patterns.specs.Thresholds.{thresholdReplies, thresholdAnswer, OrderedThresholdAnswered}
+use Rattle.patterns.specs.Thresholds.{thresholdAt, thresholdReplies, thresholdAnswer, OrderedThresholdAnswered}
 use Rattle.shortlist.specs.Candidates.{flat}
 use Rattle.shortlist.specs.Nearest.{distances, nearestIn, nearestOf}
 use Rattle.shortlist.proofs.NearestLaws.{nearest-least}
 use Rattle.lookup.specs.Second.{nearestTwoOf, NearestTwo}
-use Rattle.lookup.specs.Bracket.{bracketOf, pickAt}
+use Rattle.lookup.specs.Bracket.{bracketOf, choiceAt}
 use Rattle.lookup.specs.Lists.{listReplies, listNumber}
 use Rattle.lookup.specs.Answers.{numberOf, numberOfTwo, numberOfBracket, numberOfPicked}
 use Rattle.lookup.specs.Answers.{nearestAnswer, nearestTwoAnswer, bracketAnswer, pickAnswer, FlatNearest, FlatTwo, FlatBracket, PickedAt}
 use Rattle.lookup.specs.declared.Two.{Two}
 use Rattle.lookup.specs.declared.Bracket.{Bracket}
+use Rattle.lookup.specs.declared.Choice.{Choice}
 use Rattle.lookup.specs.declared.Found.{Found}
 use Rattle.lookup.specs.declared.Found.the-variants as found
 use Rattle.lookup.specs.declared.FoundTwo.{FoundTwo}
@@ -133,6 +133,16 @@ module _ (reduced normalized : List ℕ) (oklab : List Float) where
           sym e ∙ answered _ _ _ a ∙ ap (nearestTwoAnswer reduced normalized oklab color width) z in
           (z, cc)
 
+      -- and a bracket
+      pub bracket-given : {x : FoundBracket} {b : Bracket} → FlatBracket reduced normalized oklab color width x → x ≡ bracket.Of b
+          → (listNumber reduced normalized oklab ≡ 0) × (b ≡ bracketOf (flat reduced normalized oklab) width (toOklab color) color)
+      unfolding listNumber
+      bracket-given {x} {b} a e =
+          let z : firstReply (listReplies reduced normalized oklab) ≡ 0 = sym (a .number) ∙ ap numberOfBracket e in
+          let s : bracket.Of b ≡ bracketAnswer reduced normalized oklab color width 0 =
+          sym e ∙ answered _ _ _ a ∙ ap (bracketAnswer reduced normalized oklab color width) z in
+          (z, cc)
+
       -- the two that are answered are what document 01 says of them: the nearest, and of its shortlist the one that mixes best
       pub flat-second : {t : Two} → FlatTwo reduced normalized oklab color width (two.At t) → Bytes color → ((i : ℕ) → getD normalized i 0 < 256)
           → NearestTwo (flat reduced normalized oklab) width (toOklab color) color t
@@ -152,6 +162,11 @@ module _ (reduced normalized : List ℕ) (oklab : List Float) where
           nearest-two-only (flat reduced normalized oklab) width (toOklab color) color (A .positive) (A .ranged .range)
 
 -- ---- pick
+-- a choice is what some threshold picks
+pub pick-given : (b : Bracket) (kind x y : ℕ) {r : Choice} → PickedAt b kind x y (picked.Of r) → r ≡ choiceAt b (thresholdAt kind x y)
+pick-given b kind x y {r} a =
+    let s : picked.Of r ≡ pickAnswer b kind x y 0 = answered _ _ _ a ∙ ap (pickAnswer b kind x y) (sym (a .number)) in cc
+
 pub pick-lowest : (b : Bracket) (kind x y : ℕ) {r : Picked} → PickedAt b kind x y r → Lowest (thresholdReplies kind) (numberOfPicked r)
 pick-lowest b kind x y a = answers-lowest _ _ _ tt a
 
@@ -168,10 +183,10 @@ module _ (b : Bracket) (kind x y : ℕ) {t : Thresholded} (a : OrderedThresholdA
       never : {v : Float} → thresholded.Refused n ≡ thresholded.At v → ⊥
       never h = let z : _≡_ {A = ℕ} 0 1 = cc in omega arith
 
-  pub pick-accepted : (v : Float) → t ≡ thresholded.At v → (c : ReducedColor) → c ≡ pickAt b v → PickedAt b kind x y (picked.Color c)
+  pub pick-accepted : (v : Float) → t ≡ thresholded.At v → (c : Choice) → c ≡ choiceAt b v → PickedAt b kind x y (picked.Of c)
   pick-accepted v q c p =
       value-granted numberOfPicked _ _ picked.Refused refl (λ m. refl) (sym (a .number) ∙ ap patterns.numberOf q)
-      (ap picked.Color (p ∙ ap (pickAt b) (same (sym q ∙ told (ap patterns.numberOf q)))))
+      (ap picked.Of (p ∙ ap (choiceAt b) (same (sym q ∙ told (ap patterns.numberOf q)))))
     where
       same : {w : Float} → thresholded.At v ≡ thresholded.At w → v ≡ w
       same h = cc

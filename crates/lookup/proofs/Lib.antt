@@ -2,6 +2,8 @@
 pub mod SecondLaws
 pub mod TwoLaws
 pub mod BracketLaws
+pub mod PositionLaws
 pub mod ListLaws
 pub mod AnswerLaws
+pub mod TakenLaws
 pub mod Unique

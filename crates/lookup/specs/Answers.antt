@@ -12,7 +12,7 @@ use Rattle.patterns.specs.Thresholds.{thresholdAt, thresholdReplies}
 use Rattle.shortlist.specs.Candidates.{flat}
 use Rattle.shortlist.specs.Nearest.{nearestOf}
 use Rattle.lookup.specs.Second.{nearestTwoOf}
-use Rattle.lookup.specs.Bracket.{bracketOf, pickAt}
+use Rattle.lookup.specs.Bracket.{bracketOf, choiceAt}
 use Rattle.lookup.specs.Lists.{listReplies}
 use Rattle.lookup.specs.declared.Bracket.{Bracket}
 use Rattle.lookup.specs.declared.Found.{Found}
@@ -38,7 +38,7 @@ numberOfBracket (bracket.Of b) = 0
 numberOfBracket (bracket.Refused n) = n
 
 abbrev pub numberOfPicked : Picked → ℕ
-numberOfPicked (picked.Color c) = 0
+numberOfPicked (picked.Of c) = 0
 numberOfPicked (picked.Refused n) = n
 
 -- ---- what is answered with a number. The numbers of the lookups, and when each applies, are `listReplies`; `pick` has those of `ordered_threshold`
@@ -51,14 +51,14 @@ nearestAnswer reduced normalized oklab color = valueOr (found.At (nearestOf (fla
 abbrev pub nearestTwoAnswer : (reduced normalized : List ℕ) → List Float → NormalizedColor → (width : ℕ) → ℕ → FoundTwo
 nearestTwoAnswer reduced normalized oklab color width = valueOr (two.At (nearestTwoOf (flat reduced normalized oklab) width (toOklab color) color)) two.Refused
 
--- with 0 the bracket
+-- with 0 the bracket, with both positions
 abbrev pub bracketAnswer : (reduced normalized : List ℕ) → List Float → NormalizedColor → (width : ℕ) → ℕ → FoundBracket
 bracketAnswer reduced normalized oklab color width =
     valueOr (bracket.Of (bracketOf (flat reduced normalized oklab) width (toOklab color) color)) bracket.Refused
 
--- with 0 the colour that the threshold of the place picks
+-- with 0 the colour that the threshold of the place picks, and its position
 abbrev pub pickAnswer : Bracket → (kind x y : ℕ) → ℕ → Picked
-pickAnswer b kind x y = valueOr (picked.Color (pickAt b (thresholdAt kind x y))) picked.Refused
+pickAnswer b kind x y = valueOr (picked.Of (choiceAt b (thresholdAt kind x y))) picked.Refused
 
 -- ---- the promises: `flat_nearest`, `flat_nearest_two`, `flat_ordered_bracket`, `pick`
 abbrev pub FlatNearest : (reduced normalized : List ℕ) → List Float → NormalizedColor → Found → Type 0

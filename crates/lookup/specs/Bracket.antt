@@ -1,8 +1,9 @@
 -- The bracket of a colour, and what is picked of it. Definitions only.
 -- Written from document 01, "Choosing colours": "Bracket: if the second's lightness is at least `a`'s, dark is `a` and ratio is the clamped `lerp`;
--- otherwise dark is the second and ratio is 1 minus it. Light is picked if the two reduced colours differ and ratio exceeds the threshold."
+-- otherwise dark is the second and ratio is 1 minus it. Light is picked if the two reduced colours differ and ratio exceeds the threshold."; and document
+-- 02, Ask 4: "`nearest`, `nearest_two` and the bracket should answer with the taken records' positions besides the colours."
 use Prim.Native.Nat.{ℕ}
-use mathlib.Core.Bool.{true, cond, not, _&&_}
+use mathlib.Core.Bool.{Bool, true, cond, not, _&&_}
 use lib.Ieee.{Float, binary32, le, lt, sub}
 use Rattle.floats.specs.Bytes.{zeroF, oneF}
 use Rattle.color.specs.declared.ReducedColor.{ReducedColor}
@@ -16,6 +17,7 @@ use Rattle.lookup.specs.declared.Second.{Second}
 use Rattle.lookup.specs.declared.Second.the-variants.{At, Nothing}
 use Rattle.lookup.specs.declared.BracketAt.{BracketAt}
 use Rattle.lookup.specs.declared.Bracket.{Bracket}
+use Rattle.lookup.specs.declared.Choice.{Choice}
 
 -- entries a and b, whose normalised colours are c1 and c2, as a bracket for c
 unfoldable pub bracketWith : (ℕ → Oklab) → ℕ → ℕ → NormalizedColor → NormalizedColor → NormalizedColor → BracketAt
@@ -37,13 +39,29 @@ bracketTwo oklab normalized c a (At b) = bracketWith oklab a b (normalized a) (n
 unfoldable pub bracketAtOf : Candidates → ℕ → Oklab → NormalizedColor → BracketAt
 bracketAtOf cs width o c = bracketTwo (cs .oklab) (cs .normalized) c (nearestTwoOf cs width o c .first) (nearestTwoOf cs width o c .second)
 
--- the colours of the positions
+-- with the colours of the positions
 unfoldable pub colored : (ℕ → ReducedColor) → BracketAt → Bracket
-colored reduced at = record { dark = reduced (at .dark); light = reduced (at .light); ratio = at .ratio }
+colored reduced at = record {
+  dark = reduced (at .dark);
+  light = reduced (at .light);
+  ratio = at .ratio;
+  «dark_position» = at .dark;
+  «light_position» = at .light;
+}
 
 abbrev pub bracketOf : Candidates → ℕ → Oklab → NormalizedColor → Bracket
 bracketOf cs width o c = colored (cs .reduced) (bracketAtOf cs width o c)
 
--- light, if the two differ and its ratio exceeds the threshold; a NaN exceeds nothing
+-- whether light is picked: the two differ and its ratio exceeds the threshold; a NaN exceeds nothing
+abbrev pub isLight : Bracket → Float → Bool
+isLight b threshold = not (sameReduced (b .dark) (b .light)) && lt threshold (b .ratio)
+
+-- the colour that is picked, its position, and both
 unfoldable pub pickAt : Bracket → Float → ReducedColor
-pickAt b threshold = cond (not (sameReduced (b .dark) (b .light)) && lt threshold (b .ratio)) (b .light) (b .dark)
+pickAt b threshold = cond (isLight b threshold) (b .light) (b .dark)
+
+unfoldable pub positionAt : Bracket → Float → ℕ
+positionAt b threshold = cond (isLight b threshold) (b .«light_position») (b .«dark_position»)
+
+abbrev pub choiceAt : Bracket → Float → Choice
+choiceAt b threshold = record { color = pickAt b threshold; position = positionAt b threshold }

@@ -57,7 +57,7 @@ pub fn bracket_with(
     bracket_between(a, b, oklab_at(oklab, a), oklab_at(oklab, b), c1, c2, color)
 }
 
-// The bracket's reduced colours. No public call: the caller sees to the positions.
+// The bracket with its reduced colours. No public call: the caller sees to the positions.
 pub fn bracket_at(colors: &[u8], at: BracketAt) -> Bracket
     requires { ⌜ (4 * (at .dark) + 3 < length (now colors)) × (4 * (at .light) + 3 < length (now colors)) ⌝ }
     ensures { λ r. ⌜ r ≡ colored (reducedAt (now (colors .entry))) at ⌝ }
@@ -66,5 +66,7 @@ pub fn bracket_at(colors: &[u8], at: BracketAt) -> Bracket
         dark: ReducedColor(rgba_at(colors, at.dark)),
         light: ReducedColor(rgba_at(colors, at.light)),
         ratio: at.ratio,
+        dark_position: at.dark,
+        light_position: at.light,
     }
 }

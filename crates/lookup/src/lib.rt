@@ -18,7 +18,7 @@ use patterns::ordered_threshold;
 use shortlist::near::nearest_position;
 ghost use mathlib.Core.Path.{_≡_};
 ghost use Rattle.lookup.specs.Lists.{countFits};
-ghost use Rattle.lookup.specs.Bracket.{solidAt, pickAt};
+ghost use Rattle.lookup.specs.Bracket.{solidAt, choiceAt};
 ghost use Rattle.lookup.specs.Answers.{FlatNearest, FlatTwo, FlatBracket, PickedAt};
 
 // From 1 to 65,536 entries: what a lookup takes.
@@ -83,16 +83,25 @@ impl BracketAt {
     }
 }
 
-// The two colours an ordered dither alternates between for one source colour, and the share of `light` in the mix.
+// The two colours an ordered dither alternates between for one source colour, the share of `light` in the mix, and which
+// entries of the list the two are.
 pub struct Bracket {
     pub dark: ReducedColor,
     pub light: ReducedColor,
     pub ratio: f32,
+    pub dark_position: usize,
+    pub light_position: usize,
+}
+
+// An entry that is taken: its reduced colour, and its position.
+pub struct Choice {
+    pub color: ReducedColor,
+    pub position: usize,
 }
 
 // What `pick` answers.
 pub enum Picked {
-    Color(ReducedColor),
+    Of(Choice),
     Refused(u8),
 }
 
@@ -117,23 +126,30 @@ pub enum FoundBracket {
 // ---- pick
 
 // Light, if the two colours differ and its ratio exceeds the threshold; else dark.
-pub fn pick_at(bracket: Bracket, threshold: f32) -> ReducedColor
-    ensures { λ r. ⌜ r ≡ pickAt bracket threshold ⌝ }
+pub fn pick_at(bracket: Bracket, threshold: f32) -> Choice
+    ensures { λ r. ⌜ r ≡ choiceAt bracket threshold ⌝ }
 {
     let dark = bracket.dark;
     let light = bracket.light;
     if !same_reduced(dark, light) & (bracket.ratio > threshold) {
-        return light;
+        return Choice {
+            color: light,
+            position: bracket.light_position,
+        };
     }
-    dark
+    Choice {
+        color: dark,
+        position: bracket.dark_position,
+    }
 }
 
-// The colour for column x and row y; 1 for a kind above 10, 9 for one that has no matrix, also where the colours are equal.
+// The colour for column x and row y, and its position; 1 for a kind above 10, 9 for one that has no matrix, also where the
+// colours are equal.
 pub fn pick(bracket: Bracket, kind: u32, x: u32, y: u32) -> Picked
     ensures { λ r. ⌜ PickedAt bracket kind x y r ⌝ }
 {
     match ordered_threshold(kind, x, y) {
-        Thresholded::At(threshold) => Picked::Color(pick_at(bracket, threshold)),
+        Thresholded::At(threshold) => Picked::Of(pick_at(bracket, threshold)),
         Thresholded::Refused(number) => Picked::Refused(number),
     }
 }

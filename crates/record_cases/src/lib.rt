@@ -19,6 +19,7 @@ use recorded::shaped;
 use recorded::up_to;
 use records::FoundRecord;
 use records::FoundRecords;
+use records::Taken;
 ghost use mathlib.Core.Path.{_≡_};
 ghost use Prim.Native.Nat.{_≤_};
 ghost use lib.ListN.{take};
@@ -125,14 +126,15 @@ fn same_record(a: CandidateColor, b: CandidateColor) -> bool {
         & (same_rgba(a.normalized.0, b.normalized.0) & same_oklab(a.oklab, b.oklab))
 }
 
-// Whether token k is the position of this record.
-fn is_record(room: &[u8], k: usize, c: CandidateColor) -> bool {
-    let at = (number(room, k) % 65536) as u16;
-    is_position(room, k, at as usize) & same_record(c, record_at(room, at))
+// Whether token k is the position of this record, and its copy is the record there.
+fn is_taken(room: &[u8], k: usize, taken: Taken) -> bool {
+    let copy = taken.copy;
+    let at = (taken.position % 65536) as u16;
+    is_position(room, k, taken.position) & same_record(copy, record_at(room, at))
 }
 
-fn are_two(room: &[u8], first: CandidateColor, second: CandidateColor) -> bool {
-    is_byte(room, 5, 0) & (is_record(room, 6, first) & is_record(room, 7, second))
+fn are_two(room: &[u8], first: Taken, second: Taken) -> bool {
+    is_byte(room, 5, 0) & (is_taken(room, 6, first) & is_taken(room, 7, second))
 }
 
 // N: reduced normalized oklab color | number position
@@ -143,7 +145,7 @@ fn nearest(room: &[u8]) -> bool {
     let answers = answers_on(room, 1);
     let near = answers.near;
     match near {
-        FoundRecord::Chosen(c) => is_byte(room, 4, 0) & is_record(room, 5, c),
+        FoundRecord::Chosen(taken) => is_byte(room, 4, 0) & is_taken(room, 5, taken),
         FoundRecord::Refused(n) => is_refusal(room, 4, n),
     }
 }
@@ -162,9 +164,9 @@ fn nearest_two(room: &[u8]) -> bool {
     }
 }
 
-// B: reduced normalized oklab color width | number dark light ratio
+// B: reduced normalized oklab color width | number dark light ratio dark_position light_position
 fn ordered_bracket(room: &[u8]) -> bool {
-    if !shaped(room, &[ANY, ANY, ANY, 3, 8, 1, ANY, ANY, ANY]) {
+    if !shaped(room, &[ANY, ANY, ANY, 3, 8, 1, ANY, ANY, ANY, ANY, ANY]) {
         return false;
     }
     let answers = answers_on(room, number(room, 4));

@@ -19,8 +19,8 @@ use Rattle.lookup.specs.Answers.{nearestAnswer, nearestTwoAnswer, bracketAnswer
 use Rattle.records.specs.declared.FoundRecord.{FoundRecord}
 use Rattle.records.specs.declared.FoundRecord.the-variants as one
 use Rattle.records.specs.declared.FoundRecords.{FoundRecords}
-use Rattle.records.specs.Lists.{recordAt, recordsNumber, numberBy, reducedBytes, normalizedBytes, oklabFloats}
-use Rattle.records.specs.Answers.{nearestRecordAnswer, recordsAt, nearestTwoRecordsAnswer, recordsBracketAnswer}
+use Rattle.records.specs.Lists.{recordsNumber, numberBy, reducedBytes, normalizedBytes, oklabFloats}
+use Rattle.records.specs.Answers.{takenAt, nearestRecordAnswer, recordsAt, nearestTwoRecordsAnswer, recordsBracketAnswer}
 use Rattle.records.specs.Answers.{NearestRecord, NearestTwoRecords, RecordsBracket, foundIn, foundTwoIn}
 use Rattle.records.proofs.FlatLaws.{flat-is, number-agrees}
 
@@ -30,7 +30,7 @@ module _ (list : List CandidateColor) (color : NormalizedColor) where
 
   -- ---- with the same number the same is answered
   nearest-with : (n : ℕ) → foundIn list (nearestAnswer (reducedBytes list) (normalizedBytes list) (oklabFloats list) color n) ≡ nearestRecordAnswer list color n
-  nearest-with zero = λ i. one.Chosen (recordAt list (nearestOf (flat-is list i) (toOklab color)))
+  nearest-with zero = λ i. one.Chosen (takenAt list (nearestOf (flat-is list i) (toOklab color)))
   nearest-with (suc n) = refl
 
   module _ (width : ℕ) where

@@ -28,11 +28,12 @@ use Rattle.lookup.specs.Answers.{numberOfBracket}
 use Rattle.lookup.proofs.BracketLaws.{solid-is, pair-is}
 use Rattle.records.specs.declared.search.Asked.{Asked}
 use Rattle.records.specs.declared.search.Both.{Both}
+use Rattle.records.specs.declared.Taken.{Taken}
 use Rattle.records.specs.declared.FoundRecord.the-variants as one
 use Rattle.records.specs.declared.FoundRecords.{FoundRecords}
 use Rattle.records.specs.declared.FoundRecords.the-variants as both
 use Rattle.records.specs.Lists.{recordAt, candidatesOf, recordReplies, numberBy, recordsNumber}
-use Rattle.records.specs.Answers.{numberOfRecord, numberOfRecords, recordsAt, NearestRecord, NearestTwoRecords, RecordsBracket}
+use Rattle.records.specs.Answers.{numberOfRecord, numberOfRecords, takenAt, recordsAt, NearestRecord, NearestTwoRecords, RecordsBracket}
 use Rattle.records.specs.Reading.{Asks, Found, Has, secondAsked}
 
 -- ---- the number of a list is the lowest that applies
@@ -63,7 +64,7 @@ module _ (list : List CandidateColor) (color : NormalizedColor) where
 
   -- with 0 the result
   module _ (z : recordsNumber list ≡ 0) where
-    nearest-granted : {c : CandidateColor} → c ≡ recordAt list (nearestOf (candidatesOf list) (toOklab color)) → NearestRecord list color (one.Chosen c)
+    nearest-granted : {t : Taken} → t ≡ takenAt list (nearestOf (candidatesOf list) (toOklab color)) → NearestRecord list color (one.Chosen t)
     unfolding numberBy
     nearest-granted q = value-granted numberOfRecord _ _ one.Refused refl (λ m. refl) z (ap one.Chosen q)
 
@@ -84,12 +85,16 @@ module _ {list : List CandidateColor} {a : Asked} {b : Both} (F : Found list a b
   abbrev cs : Candidates
   cs = candidatesOf list
 
-  first-found : b .first ≡ recordAt list (nearestOf cs (a .target))
-  first-found = F .nearest z .copy ∙ ap (recordAt list) (F .nearest z .position)
+  -- the nearest, as it is taken
+  abbrev firstTaken : Taken
+  firstTaken = record { copy = b .first; position = b .position }
+
+  first-found : firstTaken ≡ takenAt list (nearestOf cs (a .target))
+  first-found = (λ i. record { copy = F .nearest z .copy i; position = b .position }) ∙ ap (takenAt list) (F .nearest z .position)
 
   -- what `chosen` answers
-  pub nearest-answered : Asks list a → NearestRecord list (a .color) (one.Chosen (b .first))
-  nearest-answered A = nearest-granted list (a .color) z (first-found ∙ ap (λ (o : Oklab). recordAt list (nearestOf cs o)) (A .target))
+  pub nearest-answered : Asks list a → NearestRecord list (a .color) (one.Chosen firstTaken)
+  nearest-answered A = nearest-granted list (a .color) z (first-found ∙ ap (λ (o : Oklab). takenAt list (nearestOf cs o)) (A .target))
 
   module _ (two : a .two ≡ true) where
     -- the second, by whether there is one
@@ -107,6 +112,10 @@ module _ {list : List CandidateColor} {a : Asked} {b : Both} (F : Found list a b
         go Nothing h = absurd (true≢false (sym e ∙ h))
         go (At k) h = (ap At (sym (h .1)), h .2 ∙ ap (recordAt list) (sym (h .1)))
 
+    -- the second, as it is taken
+    abbrev secondTaken : Taken
+    secondTaken = record { copy = b .second; position = b .place }
+
     -- what `two_of` answers
     two-found : Asks list a → {r : FoundRecords} → r ≡ recordsAt list (nearestOf cs (a .target)) (secondAsked list a)
         → NearestTwoRecords list (a .color) (a .width) r
@@ -115,13 +124,13 @@ module _ {list : List CandidateColor} {a : Asked} {b : Both} (F : Found list a b
         two-granted list (a .color) z (a .width)
         (q ∙ ap (λ (o : Oklab). recordsAt list (nearestOf cs o) (secondTo cs (a .width) (a .color) (nearestOf cs o))) (A .target))
 
-    pub one-answered : Asks list a → b .two ≡ false → NearestTwoRecords list (a .color) (a .width) (both.One (b .first))
+    pub one-answered : Asks list a → b .two ≡ false → NearestTwoRecords list (a .color) (a .width) (both.One firstTaken)
     one-answered A e = two-found A (ap both.One first-found ∙ ap (recordsAt list (nearestOf cs (a .target))) (sym (none-found e)))
 
-    pub two-answered : Asks list a → b .two ≡ true → NearestTwoRecords list (a .color) (a .width) (both.Two (b .first) (b .second))
+    pub two-answered : Asks list a → b .two ≡ true → NearestTwoRecords list (a .color) (a .width) (both.Two firstTaken secondTaken)
     two-answered A e =
         let s = second-found e in
-        two-found A ((λ i. both.Two (first-found i) (s .1 i)) ∙ ap (recordsAt list (nearestOf cs (a .target))) (sym (s .0)))
+        two-found A ((λ i. both.Two (first-found i) (record { copy = s .1 i; position = b .place })) ∙ ap (recordsAt list (nearestOf cs (a .target))) (sym (s .0)))
 
     -- ---- what `positions_of` answers
 
@@ -182,9 +191,10 @@ module _ {list : List CandidateColor} {a : Asked} {b : Both} (F : Found list a b
       ends-found = subst Ends (sym q) ends
 
       pub bracket-answered : Asks list a → {dark light : ReducedColor} → dark ≡ recordAt list (at .dark) .reduced → light ≡ recordAt list (at .light) .reduced
-          → RecordsBracket list (a .color) (a .width) (bracket.Of (record { dark = dark; light = light; ratio = at .ratio }))
+          → RecordsBracket list (a .color) (a .width) (bracket.Of
+          (record { dark = dark; light = light; ratio = at .ratio; «dark_position» = at .dark; «light_position» = at .light }))
       unfolding colored
       bracket-answered A d l =
           bracket-granted list (a .color) z (a .width)
-          ((λ i. record { dark = d i; light = l i; ratio = at .ratio }) ∙ ap (colored (cs .reduced)) q
+          ((λ i. record { dark = d i; light = l i; ratio = at .ratio; «dark_position» = at .dark; «light_position» = at .light }) ∙ ap (colored (cs .reduced)) q
           ∙ ap (λ (o : Oklab). bracketOf cs (a .width) o (a .color)) (A .target))

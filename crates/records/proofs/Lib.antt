@@ -5,6 +5,7 @@ pub mod OtherLaws
 pub mod FlatLaws
 pub mod AgreeLaws
 pub mod AnswerLaws
+pub mod TakenLaws
 pub mod Told
 mod Said
 mod LookupCalls

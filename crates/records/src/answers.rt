@@ -1,6 +1,7 @@
 // What the lookups answer, by what was found.
 use super::FoundRecord;
 use super::FoundRecords;
+use super::Taken;
 use super::search::Both;
 use color::CandidateColor;
 use color::ReducedColor;
@@ -27,8 +28,11 @@ pub fn chosen(both: Both) -> FoundRecord
     if both.number != 0 {
         return FoundRecord::Refused(both.number);
     }
-    let c = both.first;
-    FoundRecord::Chosen(c)
+    let copy = both.first;
+    FoundRecord::Chosen(Taken {
+        copy,
+        position: both.position,
+    })
 }
 
 // The answer of `nearest_two`.
@@ -38,11 +42,19 @@ pub fn two_of(both: Both) -> FoundRecords
     if both.number != 0 {
         return FoundRecords::Refused(both.number);
     }
-    let a = both.first;
+    let first = both.first;
+    let a = Taken {
+        copy: first,
+        position: both.position,
+    };
     if !both.two {
         return FoundRecords::One(a);
     }
-    let b = both.second;
+    let second = both.second;
+    let b = Taken {
+        copy: second,
+        position: both.place,
+    };
     FoundRecords::Two(a, b)
 }
 
@@ -90,5 +102,7 @@ pub fn bracket_of(both: Both) -> FoundBracket
         dark,
         light,
         ratio: at.ratio,
+        dark_position: at.dark,
+        light_position: at.light,
     })
 }

@@ -25,16 +25,22 @@ use turns::turn;
 ghost use Rattle.records.specs.Answers.{NearestRecord, NearestTwoRecords, RecordsBracket};
 ghost use Rattle.records.specs.Reading.{Asks, Found};
 
+// A record that is taken: its copy, and its position in the list.
+pub struct Taken {
+    pub copy: CandidateColor,
+    pub position: usize,
+}
+
 // What `nearest` answers.
 pub enum FoundRecord {
-    Chosen(CandidateColor),
+    Chosen(Taken),
     Refused(u8),
 }
 
 // What `nearest_two` answers.
 pub enum FoundRecords {
-    Two(CandidateColor, CandidateColor),
-    One(CandidateColor),
+    Two(Taken, Taken),
+    One(Taken),
     Refused(u8),
 }
 
@@ -57,7 +63,7 @@ fn found_in(list: &[CandidateColor], asked: Asked) -> Both
 
 // ---- the lookups: 4 where there is no record or more than 65,536, 6 where a component of one is not from -2 to 2
 
-// The nearest record, the first of equals.
+// The nearest record, the first of equals, with its position.
 pub fn nearest(list: &[CandidateColor], color: NormalizedColor) -> FoundRecord
     ensures { λ r. ⌜ NearestRecord (now (list .entry)) color r ⌝ }
 {
@@ -65,7 +71,7 @@ pub fn nearest(list: &[CandidateColor], color: NormalizedColor) -> FoundRecord
     chosen(found_in(list, ask(color, len, 1, false)))
 }
 
-// The nearest record and the second.
+// The nearest record and the second, each with its position.
 pub fn nearest_two(color: NormalizedColor, list: &[CandidateColor], width: u64) -> FoundRecords
     ensures { λ r. ⌜ NearestTwoRecords (now (list .entry)) color width r ⌝ }
 {
@@ -73,7 +79,7 @@ pub fn nearest_two(color: NormalizedColor, list: &[CandidateColor], width: u64) 
     two_of(found_in(list, ask(color, len, width, true)))
 }
 
-// The two colours that an ordered dither alternates between, and the share of the lighter.
+// The two colours that an ordered dither alternates between, their records' positions, and the share of the lighter.
 pub fn ordered_bracket(color: NormalizedColor, list: &[CandidateColor], width: u64) -> FoundBracket
     ensures { λ r. ⌜ RecordsBracket (now (list .entry)) color width r ⌝ }
 {

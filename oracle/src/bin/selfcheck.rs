@@ -134,8 +134,11 @@ fn check_lookups(tally: &mut Tally, seed: u64, cases: u64) {
         let bracket = model::ordered_bracket(&ours, *color, *width);
         let same = model::nearest(&ours, *color) == near
             && model::nearest_two(&ours, *color, *width) == two
-            && (bracket.0, bracket.1, bracket.2.to_bits()) == (theirs.0, theirs.1, theirs.2.to_bits());
+            && (bracket.dark, bracket.light, bracket.ratio.to_bits())
+                == (theirs.dark, theirs.light, theirs.ratio.to_bits());
         tally.hold("lookups", same, || format!("seed {seed} case {number}"));
+        let same = [bracket.dark_position, bracket.light_position] == [theirs.dark_position, theirs.light_position];
+        tally.hold("positions of brackets", same, || format!("seed {seed} case {number}"));
     }
 }
 

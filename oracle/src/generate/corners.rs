@@ -63,6 +63,24 @@ fn long_lookup(entries: usize) -> Lookup {
     Lookup { list, color: [90, 120, 60], width: 16 }
 }
 
+/// The largest palette, of five colours in turn.
+fn five_colors(kind: u32) -> Case {
+    let Case::QuantizePixels(mut case) = whole_quantize(kind, 32, 32, 256) else { unreachable!() };
+    case.palette = case.palette[..20].iter().copied().cycle().take(4 * 256).collect();
+    Case::QuantizePixels(case)
+}
+
+/// The first record is the colour itself, and its only twin the last one.
+fn far_twin(entries: usize) -> Lookup {
+    let mut lookup = long_lookup(entries);
+    lookup.list.normalized[..3].copy_from_slice(&lookup.color);
+    lookup.list.oklab[..3].copy_from_slice(&to_oklab(lookup.color));
+    lookup.list.reduced.copy_within(..4, 4 * entries - 4);
+    lookup.list.normalized.copy_within(..4, 4 * entries - 4);
+    lookup.list.oklab.copy_within(..3, 3 * entries - 3);
+    lookup
+}
+
 /// Colours in descending order, with as much room as there can be.
 fn many_candidates(places: usize) -> Case {
     let identity = Tables { reduction: std::array::from_fn(|v| v as u8), scale: std::array::from_fn(|v| v as u8) };
@@ -94,6 +112,11 @@ pub fn corners() -> Vec<Case> {
         Case::Nearest(long_lookup(65_537)),
         Case::NearestTwo(long_lookup(65_536)),
         Case::OrderedBracket { lookup: long_lookup(65_536), dark: vec![1; 4], light: vec![2; 4] },
+        Case::NearestTwo(far_twin(65_536)),
+        Case::OrderedBracket { lookup: far_twin(65_536), dark: vec![1; 4], light: vec![2; 4] },
+        five_colors(model::OFF),
+        five_colors(2),
+        five_colors(model::FLOYD_STEINBERG),
         many_candidates(65_536),
         many_candidates(65_535),
         many_candidates(65_537),

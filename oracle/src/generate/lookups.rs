@@ -24,7 +24,7 @@ impl Maker<'_> {
 
     /// A record; its normalised colour need not be the scale of its reduced one,
     /// nor its Oklab the conversion of either.
-    fn record(&mut self, style: u64, middle: [u8; 3]) -> ([u8; 4], [u8; 4], [f32; 3]) {
+    pub(super) fn record(&mut self, style: u64, middle: [u8; 3]) -> ([u8; 4], [u8; 4], [f32; 3]) {
         let reduced = std::array::from_fn(|_| self.rng.byte() & 31);
         let [r, g, b] = match style {
             0 => middle.map(|v| v.saturating_add(self.rng.below(40) as u8).saturating_sub(20)),
@@ -78,7 +78,7 @@ impl Maker<'_> {
 
     pub(super) fn lookup(&mut self) -> Lookup {
         let mut color = self.rgb();
-        let mut list = self.list(color);
+        let mut list = if self.wants_twins() { self.twin_list(color) } else { self.list(color) };
         if self.rng.one_in(3) && !list.normalized.is_empty() {
             let at = 4 * self.rng.below(list.normalized.len() as u64 / 4) as usize;
             color.copy_from_slice(&list.normalized[at..at + 3]);

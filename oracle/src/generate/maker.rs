@@ -13,11 +13,14 @@ pub struct Style {
     pub side: u64,
     /// Now and then long lists, large pictures and full rooms.
     pub large: bool,
+    /// One in so many lists and palettes is full of twins; 0 where none is.
+    pub twins: u64,
 }
 
 impl Style {
-    pub const DRIVER: Style = Style { finite: false, side: 24, large: true };
-    pub const RECORDER: Style = Style { finite: true, side: 5, large: false };
+    pub const DRIVER: Style = Style { finite: false, side: 24, large: true, twins: 3 };
+    pub const RECORDER: Style = Style { finite: true, side: 5, large: false, twins: 0 };
+    pub const RECORDER_OF_TWINS: Style = Style { twins: 1, ..Style::RECORDER };
 }
 
 /// Makes one case.

@@ -71,13 +71,14 @@ impl Maker<'_> {
     pub(super) fn quantize(&mut self) -> Quantize {
         let canvas = self.canvas();
         let (kind, count) = (self.kind(), canvas.count());
+        let palette = if self.wants_twins() { self.twin_palette(&canvas) } else { self.palette(&canvas) };
         let mut case = Quantize {
             shift: canvas.shift,
             kind,
             width: canvas.width,
             height: canvas.height,
             tables: (&canvas.tables).into(),
-            palette: self.palette(&canvas),
+            palette,
             indices: self.rng.bytes(count),
             out: self.rng.bytes(4 * count),
             cells: self.cells(kind, count),

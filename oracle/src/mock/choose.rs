@@ -5,7 +5,7 @@ use quantette::exact::{as_floats, millionths_with, root_by_halving, root_down};
 
 use super::slip::{Mock, Slip};
 use crate::model::{self, Entry};
-use crate::original::{Lab, Rgba};
+use crate::original::{Bracket, Lab, Rgba};
 use crate::port::Lists;
 
 /// Colour `i` of a list of colours.
@@ -100,12 +100,39 @@ impl Mock {
         (a, best.map(|b| b.0).or(shortlist.first().copied()))
     }
 
-    pub(super) fn find_bracket(&self, list: &[Entry], color: [u8; 3], width: u64) -> (Rgba, Rgba, f32) {
-        let (a, Some(b)) = self.find_two(list, color, width) else {
-            return (list[0].reduced, list[0].reduced, 0.0);
+    pub(super) fn find_bracket(&self, list: &[Entry], color: [u8; 3], width: u64) -> Bracket {
+        let (a, b) = self.find_two(list, color, width);
+        let b = b.unwrap_or(a);
+        // One entry alone has no way to itself: t is then 0.
+        let t = self.lerp(model::rgb(list[a].normalized), model::rgb(list[b].normalized), color, true);
+        let (dark, light, ratio) = if list[b].oklab[0] >= list[a].oklab[0] { (a, b, t) } else { (b, a, 1.0 - t) };
+        Bracket {
+            dark: list[dark].reduced,
+            light: list[light].reduced,
+            ratio,
+            dark_position: dark,
+            light_position: light,
+        }
+    }
+
+    /// The positions that are said of a bracket, dark's first.
+    pub(super) fn positions(&self, list: &[Entry], color: [u8; 3], width: u64, bracket: &Bracket) -> [u32; 2] {
+        let [dark, light] = [bracket.dark_position, bracket.light_position];
+        let equal = |i: usize| (0..list.len()).filter(move |&k| list[k].reduced == list[i].reduced);
+        let said = match self.slip {
+            Some(Slip::PositionOfFirstTwin) => [dark, light].map(|i| equal(i).next().unwrap()),
+            Some(Slip::PositionOfLaterTwin) => [dark, light].map(|i| equal(i).next_back().unwrap()),
+            Some(Slip::PositionInShortlist) => {
+                let shortlist = self.shortlist(list, self.find_nearest(list, color), width);
+                [dark, light].map(|i| shortlist.iter().position(|&k| k == i).unwrap_or(i))
+            }
+            Some(Slip::PositionsSwapped) => [light, dark],
+            Some(Slip::PositionsByNearness) => {
+                let (a, b) = self.find_two(list, color, width);
+                [a, b.unwrap_or(a)]
+            }
+            _ => [dark, light],
         };
-        let (a, b) = (list[a], list[b]);
-        let t = self.lerp(model::rgb(a.normalized), model::rgb(b.normalized), color, true);
-        if b.oklab[0] >= a.oklab[0] { (a.reduced, b.reduced, t) } else { (b.reduced, a.reduced, 1.0 - t) }
+        said.map(|i| i as u32)
     }
 }

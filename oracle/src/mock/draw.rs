@@ -6,7 +6,7 @@ use super::choose::rgba;
 use super::slip::{Mock, Slip};
 use crate::case::ToMode;
 use crate::model::{self, Entry};
-use crate::original::Rgba;
+use crate::original::{Bracket, Rgba};
 use crate::port::Read;
 
 /// A picture to be drawn.
@@ -102,7 +102,7 @@ impl Mock {
         }
         let crop = if self.has_slip(Slip::MatrixInsideCrop) { [0, 0] } else { drawing.origin };
         let (x, y) = (crop[0] + (i % drawing.size[0]) as u32, crop[1] + (i / drawing.size[0]) as u32);
-        let (dark, light, ratio) = self.find_bracket(&drawing.candidates, color, drawing.width);
+        let Bracket { dark, light, ratio, .. } = self.find_bracket(&drawing.candidates, color, drawing.width);
         model::pick(dark, light, ratio, drawing.kind, x, y).unwrap()
     }
 
@@ -190,8 +190,16 @@ impl Mock {
         Some(entries)
     }
 
-    pub(super) fn index(&self, palette: &[u8], color: Rgba) -> u8 {
-        let mut equal = palette.chunks_exact(4).enumerate().filter(|(_, e)| **e == color).map(|(i, _)| i as u8);
+    /// The index of what was chosen at pixel `i`.
+    pub(super) fn index(&self, drawing: &Drawing, i: usize, color: Rgba) -> u8 {
+        if self.has_slip(Slip::IndexOfTwinInBracket) && model::threshold(drawing.kind, 0, 0).is_some() {
+            let bracket = self.find_bracket(&drawing.candidates, model::rgb(drawing.pixel(i)), drawing.width);
+            if bracket.light == color {
+                return bracket.light_position as u8;
+            }
+        }
+        let mut equal =
+            drawing.read.palette.chunks_exact(4).enumerate().filter(|(_, e)| **e == color).map(|(i, _)| i as u8);
         let index = if self.has_slip(Slip::IndexOfLaterDuplicate) { equal.last() } else { equal.next() };
         // A wrong program may choose a colour that is no entry.
         index.unwrap_or(0)

@@ -19,6 +19,15 @@ pub enum Slip {
     WritesNothing,
     DithersFirstRowOnly,
     InventsTileNumber,
+    // Positions of a bracket.
+    PositionOfFirstTwin,
+    PositionOfLaterTwin,
+    PositionInShortlist,
+    PositionsSwapped,
+    PositionsByNearness,
+    OneEntryHasNoPositions,
+    RefusalWritesPositions,
+    IndexOfTwinInBracket,
     // Others.
     Alpha127Opaque,
     RootOffByOne,
@@ -54,7 +63,7 @@ pub enum Slip {
 }
 
 impl Slip {
-    pub const ALL: [Slip; 45] = [
+    pub const ALL: [Slip; 53] = [
         Slip::LastOfEqualNearest,
         Slip::LastOfEqualShortlist,
         Slip::LastOfEqualResidual,
@@ -69,6 +78,14 @@ impl Slip {
         Slip::WritesNothing,
         Slip::DithersFirstRowOnly,
         Slip::InventsTileNumber,
+        Slip::PositionOfFirstTwin,
+        Slip::PositionOfLaterTwin,
+        Slip::PositionInShortlist,
+        Slip::PositionsSwapped,
+        Slip::PositionsByNearness,
+        Slip::OneEntryHasNoPositions,
+        Slip::RefusalWritesPositions,
+        Slip::IndexOfTwinInBracket,
         Slip::Alpha127Opaque,
         Slip::RootOffByOne,
         Slip::RootDownward,

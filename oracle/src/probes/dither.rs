@@ -64,6 +64,24 @@ pub(crate) mod probe {
         (bracket.dark, bracket.light, bracket.ratio)
     }
 
+    /// Where dark and light stand in the list, and the ratio once more. The
+    /// original answers two reduced colours and no positions, and twins have one
+    /// colour. But it never looks at `reduced`, here or in what it asks; it only
+    /// hands it back. So it is asked over the same list with each record's number
+    /// for its reduced colour, and the two colours that come back are the positions.
+    pub fn bracket_positions(
+        color: NormalizedColor,
+        list: &[CandidateColor],
+        width: usize,
+    ) -> (usize, usize, f32) {
+        let number = |i: u32| ReducedColor(crate::color::Rgba8888::from_bytes(i.to_be_bytes()));
+        let numbered: Vec<CandidateColor> =
+            list.iter().zip(0..).map(|(c, i)| CandidateColor { reduced: number(i), ..*c }).collect();
+        let bracket = ordered_bracket(color, &numbered, width);
+        let [dark, light] = [bracket.dark, bracket.light].map(|c| u32::from_be_bytes(c.to_bytes()) as usize);
+        (dark, light, bracket.ratio)
+    }
+
     pub fn pick(
         (dark, light, ratio): (ReducedColor, ReducedColor, f32),
         dither: Dither,

@@ -18,9 +18,10 @@ rgba-at-requires c κs =
 
 returns : tie.Need-returns
 returns c =
-    let a = c .before .before .before .before .before .before .args in
+    let s = c .before .before .before .before .before .before in
+    let a = s .args in
     let n = c .before .nearest-position .ensures in
-    (nearest-is (a .colors .now) (a .scale .now) (a .oklab .now) (a .count) _ _ (a .color) (n .0) (c .rgba-at .ensures), n .1)
+    (nearest-is (a .colors .now) (a .scale .now) (a .oklab .now) (a .count) (s .pre .1) _ _ (a .color) (n .0) (c .rgba-at .ensures), n .1)
 
 pub nearest-color-spec : {M : Type 1} → statement M
 nearest-color-spec =

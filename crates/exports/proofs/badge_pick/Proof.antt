@@ -43,8 +43,8 @@ color-in-requires-2 c κs =
 pick-requires : tie.Need-pick-requires
 pick-requires c κs = search needs
 
-enum-known-color : tie.Need-enum-known-color
-enum-known-color c = search needs
+enum-known-choice : tie.Need-enum-known-choice
+enum-known-choice c = search needs
 
 put-color-requires : tie.Need-put-color-requires
 put-color-requires c κs =
@@ -72,7 +72,7 @@ returns-3 c =
     (known (c .before .before .before .before .before .before .before .before .before .before .before .before)
     (c .before .before .before .before .before .before .before .before .before .before .before .if1 .left))
     (c .before .before .before .before .before .before .before .before .before .before .if2 .left) (d .result) (l .result) (d .ensures) (l .ensures) _ _
-    (c .before .before .before .before .before .before .before .pick .ensures) (c .before .before .before .before .before .color .given .1))
+    (c .before .before .before .before .before .before .before .pick .ensures) (c .before .before .before .before .before .choice .given .1))
 
 returns-4 : tie.Need-returns-4
 returns-4 c =
@@ -95,7 +95,7 @@ badge-pick-spec =
     color-in-requires
     color-in-requires-2
     pick-requires
-    enum-known-color
+    enum-known-choice
     put-color-requires
     enum-known-number
     cast-result

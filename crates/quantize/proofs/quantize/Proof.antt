@@ -1,5 +1,6 @@
--- `quantize::quantize` meets its contract: the palette's Oklab, the drawn picture, the indices of its choices, and the choices finished. Assumes nothing.
-use mathlib.Core.Path.{_≡_, sym, _∙_, ap}
+-- `quantize::quantize` meets its contract: the palette's Oklab, the drawn picture with the positions of its choices, and the choices finished. Assumes
+-- nothing.
+use mathlib.Core.Path.{_≡_, sym, _∙_, ap, subst}
 use Prim.Native.Nat.{ℕ, _*_, _<_}
 use native.Mathlib.Omega.{arith}
 use lib.ListN.{length, getD, take}
@@ -9,10 +10,11 @@ use Rattle.shortlist.specs.Candidates.{RangedList}
 use Rattle.drawing.specs.declared.ColorZero.the-variants.{Absent}
 use Rattle.drawing.specs.Drawing.{Drawing}
 use Rattle.drawing.specs.Lent.{drawingOf, reducedBytes, cellsAfter}
+use Rattle.drawing.specs.Positions.{PositionsAfter}
 use Rattle.drawing.proofs.CandidateLaws.{list-fit}
 use Rattle.drawing.proofs.FinishedLaws.{finished-all}
 use Rattle.quantize.specs.Quantize.{Commission, commission, entries, paletteOklab, dithererOf, lentOf, quantizing}
-use Rattle.quantize.proofs.DrawnLaws.{ready, indexable, finishable, indexed-all}
+use Rattle.quantize.proofs.DrawnLaws.{palette-alike, positions-are, ready, finishable}
 use borrow.Author.Needs.{needs}
 use Rattle.quantize.proofs.quantize.Statement.{statement}
 use Rattle.quantize.proofs.quantize.Tie as tie
@@ -41,20 +43,23 @@ fit c =
     list-fit (q .scale) (reducedAt (q .palette)) (entries q) bytes
 
 -- where the drawing is called
-abbrev listed : tie.After-draw-arg2 → tie.After-put-list-oklab
-listed c = c .before .before .before .before .before .before .before
+abbrev listed : tie.After-draw-arg3 → tie.After-put-list-oklab
+listed c = c .before .before .before .before .before .before .before .before
 
 -- the picture that is drawn is the one that is promised
-same-picture : (c : tie.After-draw-arg2) → let q = asked (began (listed c)) in
-    drawingOf (dithererOf q (c .before .before .before .before .width-of .result)) Absent
+same-picture : (c : tie.After-draw-arg3) → let q = asked (began (listed c)) in
+    drawingOf (dithererOf q (c .before .before .before .before .before .width-of .result)) Absent
     (lentOf q (take (3 * entries q) (listed c .put-list-oklab .last .1 .1 .1 .1 .0)))
     ≡ quantizing q
 same-picture c =
     let q = asked (began (listed c)) in
-    λ t. drawingOf (dithererOf q (c .before .before .before .before .width-of .ensures t)) Absent (lentOf q (front (listed c) t))
+    λ t. drawingOf (dithererOf q (c .before .before .before .before .before .width-of .ensures t)) Absent (lentOf q (front (listed c) t))
 
-drawn-over : (c : tie.After-draw) → c .draw .last .1 .1 .1 .1 .1 .1 .1 .1 .1 .0 ≡ reducedBytes (quantizing (asked (began (listed (c .before)))))
+drawn-over : (c : tie.After-draw) → c .draw .last .1 .1 .1 .1 .1 .1 .1 .1 .1 .1 .0 ≡ reducedBytes (quantizing (asked (began (listed (c .before)))))
 drawn-over c = c .draw .ensures .0 ∙ ap reducedBytes (same-picture (c .before))
+
+mul-size : tie.Need-mul-size
+mul-size c = search needs
 
 linear-table-requires : tie.Need-linear-table-requires
 linear-table-requires c κs = search needs
@@ -88,19 +93,9 @@ draw-requires c κs =
       f .cells,
     )
 
-mul-size : tie.Need-mul-size
-mul-size c = search needs
-
-put-indices-requires : tie.Need-put-indices-requires
-put-indices-requires c κs =
-    let d = c .before .before .before .before .before .before in
-    let s = began (listed (d .before)) in
-    let a = s .args in
-    (indexable (asked s) (a .indices .now) (a .out .now) (a .cells .now) (s .pre .0) (fit (listed (d .before))) _ (drawn-over d), s .pre .0 .indices)
-
 finish-requires : tie.Need-finish-requires
 finish-requires c κs =
-    let d = c .before .before .before .before .before .before .before .before .before .before in
+    let d = c .before .before .before .before .before .before .before in
     let s = began (listed (d .before)) in
     let a = s .args in
     finishable (asked s) (a .indices .now) (a .out .now) (a .cells .now) (s .pre .0) (fit (listed (d .before))) _ (drawn-over d)
@@ -119,12 +114,13 @@ same-length-4 c = search needs
 
 returns : tie.Need-returns
 returns c =
-    let d = c .before .before .before .before .before .before .before .before .before .before .before .before .before in
+    let d = c .before .before .before .before .before .before .before .before .before .before in
     let s = began (listed (d .before)) in
     let a = s .args in
     let q = asked s in
-    let indexed = indexed-all q (a .indices .now) (a .out .now) (a .cells .now) (s .pre .0) (fit (listed (d .before))) _ (drawn-over d) in (
-      c .before .before .before .before .before .before .put-indices .ensures ∙ indexed,
+    let left = d .draw .last .1 .1 .1 .1 .1 .1 .1 .1 .1 .0 in
+    let positions = subst (λ (p : Drawing). PositionsAfter p (a .indices .now) left) (same-picture (d .before)) (d .draw .ensures .2) in (
+      positions (palette-alike q) (s .pre .0 .few) (s .pre .0 .indices) ∙ positions-are q,
       c .before .before .finish .ensures ∙ finished-all (quantizing q) _ (drawn-over d),
       d .draw .ensures .1 ∙ ap (λ (p : Drawing). cellsAfter p (a .cells .now)) (same-picture (d .before)),
     )
@@ -133,6 +129,7 @@ pub quantize-spec : {M : Type 1} → statement M
 quantize-spec =
     tie.close
     (tie.spec
+    mul-size
     linear-table-requires
     put-list-oklab-requires
     width-of-requires
@@ -140,8 +137,6 @@ quantize-spec =
     slice-reshare-prefix-oklab
     slice-aggregate-oklab
     draw-requires
-    mul-size
-    put-indices-requires
     finish-requires
     same-length
     same-length-2

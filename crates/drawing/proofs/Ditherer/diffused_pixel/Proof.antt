@@ -1,13 +1,13 @@
 -- `drawing::Ditherer::diffused_pixel` meets its contract: a skipped pixel leaves the cells alone, and a dithered one passes its residual on. Assumes
 -- nothing.
-use mathlib.Core.Path.{_≡_, sym, _∙_}
+use mathlib.Core.Path.{_≡_, _∙_}
 use mathlib.Core.Bool.{Bool}
 use Prim.Native.Nat.{ℕ, _≤_}
 use native.Mathlib.Nat.{le-of-lt}
 use native.Mathlib.Omega.{arith}
 use lib.ListN.{getD}
 use Rattle.drawing.specs.Lent.{isSkipped, Lent, lent, reducedLent}
-use Rattle.drawing.proofs.DrawnLaws.{drawn-skipped}
+use Rattle.drawing.proofs.PositionLaws.{takes-skipped}
 use Rattle.drawing.proofs.TurnLaws.{turn-length, turn-cells, turn-skipped, turn-choice, turn-passed}
 use Rattle.drawing.proofs.StepLaws.{choosable, placed, skipped-as}
 use borrow.Author.Needs.{needs}
@@ -36,12 +36,16 @@ reduced-at-requires c κs = search needs
 is-skipped-requires : tie.Need-is-skipped-requires
 is-skipped-requires c κs = search needs
 
+keeping-requires : tie.Need-keeping-requires
+keeping-requires c κs = search needs
+
 returns : tie.Need-returns
 returns c =
-    let k = c .before in
+    let k = c .before .before in
+    let kept = c .keeping .ensures in
     let p = start k .pre in
-    let s = skipped k _ (c .if1 .taken) in
-    (k .before .reduced-at .ensures ∙ sym (drawn-skipped _ _ s), turn-skipped _ _ _ s (p .4), p .5)
+    let s = skipped k _ (c .before .if1 .taken) in
+    (takes-skipped _ _ _ s (kept .0 ∙ k .before .reduced-at .ensures) (kept .1), turn-skipped _ _ _ s (p .4), p .5)
 
 source-at-requires : tie.Need-source-at-requires
 source-at-requires c κs = search needs
@@ -85,6 +89,7 @@ diffused-pixel-spec =
     (tie.spec
     reduced-at-requires
     is-skipped-requires
+    keeping-requires
     returns
     source-at-requires
     diffusion-color-at-requires

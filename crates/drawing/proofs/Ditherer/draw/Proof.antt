@@ -13,7 +13,7 @@ use Rattle.drawing.proofs.Ditherer.draw.Tie as tie
 
 -- where the kind is asked, and what was answered
 abbrev start : tie.After-is-diffusion → tie.Start
-start c = c .before .before .before .before .before .before .before .before
+start c = c .before .before .before .before .before .before .before .before .before
 
 kind-is : (c : tie.After-is-diffusion) (t : Bool) → c .is-diffusion .result ≡ t → isDiffusion (start c .args .self .kind) ≡ t
 kind-is c t e = sym (c .is-diffusion .ensures) ∙ e
@@ -29,16 +29,16 @@ is-diffusion-requires c κs = search needs
 
 draw-diffused-requires : tie.Need-draw-diffused-requires
 draw-diffused-requires c κs =
-    let k = c .before .before .before .before in
+    let k = c .before .before .before .before .before in
     let p = start k .pre in
-    let d = kind-is k _ (c .before .before .before .if1 .taken) in
+    let d = kind-is k _ (c .before .before .before .before .if1 .taken) in
     (p .0, p .1, d, p .2, p .3 d, table-none _)
 
 draw-each-requires : tie.Need-draw-each-requires
 draw-each-requires c κs =
-    let k = c .before .before .before in
+    let k = c .before .before .before .before in
     let p = start k .pre in
-    let e = kind-is k _ (c .before .before .if1 .left) in
+    let e = kind-is k _ (c .before .before .before .if1 .left) in
     (p .0, p .1, e, p .2, remembers-none (start k .args .self) _)
 
 same-length : tie.Need-same-length
@@ -47,19 +47,28 @@ same-length c = search needs
 same-length-2 : tie.Need-same-length-2
 same-length-2 c = search needs
 
-returns : tie.Need-returns
-returns c =
-    let k = c .before .before .before .before .before .before .before .before .before in
-    let e = c .before .before .before .before .draw-diffused .ensures in
-    (e .0, turn-end (picture (start k)) (kind-is k _ (c .before .before .before .before .before .before .before .before .if1 .taken)) _ _ (e .1))
-
 same-length-3 : tie.Need-same-length-3
 same-length-3 c = search needs
 
+returns : tie.Need-returns
+returns c =
+    let d = c .before .before .before .before .before .before in
+    let k = d .before .before .before .before .before .before in
+    let e = d .draw-diffused .ensures in
+    (e .0, turn-end (picture (start k)) (kind-is k _ (d .before .before .before .before .before .if1 .taken)) _ _ (e .1), e .2)
+
+same-length-4 : tie.Need-same-length-4
+same-length-4 c = search needs
+
+same-length-5 : tie.Need-same-length-5
+same-length-5 c = search needs
+
 returns-2 : tie.Need-returns-2
 returns-2 c =
-    let k = c .before .before .before .before .before .before in
-    (c .before .before .draw-each .ensures, turn-none _ (kind-is k _ (c .before .before .before .before .before .if1 .left)) _)
+    let d = c .before .before .before .before in
+    let k = d .before .before .before .before .before in
+    let e = d .draw-each .ensures in
+    (e .0, turn-none _ (kind-is k _ (d .before .before .before .before .if1 .left)) _, e .1)
 
 pub draw-spec : {M : Type 1} → statement M
 draw-spec =
@@ -70,6 +79,8 @@ draw-spec =
     draw-each-requires
     same-length
     same-length-2
-    returns
     same-length-3
+    returns
+    same-length-4
+    same-length-5
     returns-2)

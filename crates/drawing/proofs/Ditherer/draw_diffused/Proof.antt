@@ -1,5 +1,5 @@
--- `drawing::Ditherer::draw_diffused` meets its contract. The invariant: the first i pixels are in place, and the cells are those of pixel i's turn.
--- Assumes nothing.
+-- `drawing::Ditherer::draw_diffused` meets its contract. The invariant: the first i pixels are in place and their positions noted, and the
+-- cells are those of pixel i's turn. Assumes nothing.
 use Prim.Native.Nat.{_*_, _-_}
 use mathlib.Core.Path.{_≡_, sym, ap, _∙_}
 use native.Mathlib.Omega.{arith}
@@ -10,22 +10,24 @@ use Rattle.remembered.specs.Table.{nearestAlone, TableOf}
 use Rattle.drawing.specs.Lent.{lent, drawingOf, pixelBytes}
 use Rattle.drawing.specs.Turns.{cellsBefore}
 use Rattle.drawing.proofs.OutputLaws.{out-more, out-all}
+use Rattle.drawing.proofs.PositionLaws.{Noting, note-begin, note-more, note-done}
 use Rattle.drawing.proofs.TurnLaws.{turn-begin, turn-length}
 use Rattle.drawing.proofs.Ditherer.draw_diffused.Statement.{statement}
 use Rattle.drawing.proofs.Ditherer.draw_diffused.Tie as tie
 
 abbrev Inv-loop : tie.InvT-loop
-Inv-loop self zero linear reduction scale pixels colors oklab count memory₀ out₀ cells₀ size i₀ memory out cells i =
+Inv-loop self zero linear reduction scale pixels colors oklab count memory₀ indices₀ out₀ cells₀ size i₀ memory indices out cells i =
     Filling 4 (pixelBytes (drawingOf self zero (lent reduction scale pixels colors oklab count))) out₀ out i
     × (cells ≡ cellsBefore (drawingOf self zero (lent reduction scale pixels colors oklab count)) i)
     × TableOf (nearestAlone (oklabAt oklab) count) memory
+    × Noting (drawingOf self zero (lent reduction scale pixels colors oklab count)) indices₀ indices i
 
 abbrev μ-loop : tie.MeasureT-loop
-μ-loop self zero linear reduction scale pixels colors oklab count memory₀ out₀ cells₀ size i₀ memory out cells i = size - i
+μ-loop self zero linear reduction scale pixels colors oklab count memory₀ indices₀ out₀ cells₀ size i₀ memory indices out cells i = size - i
 
 -- where the function began, from a turn of the loop
 abbrev start : tie.In-loop Inv-loop μ-loop → tie.Start Inv-loop μ-loop
-start c = c .before .before .before .before .before .before .before .before .before .before .before .before .before .before .before
+start c = c .before .before .before .before .before .before .before .before .before .before .before .before .before .before .before .before
 
 zero-floats-requires : tie.Need-zero-floats-requires Inv-loop μ-loop
 zero-floats-requires c κs = search needs
@@ -41,8 +43,8 @@ mul-size c = search needs
 
 loop-holds : tie.Need-loop-holds Inv-loop μ-loop
 loop-holds c =
-    let p = c .before .before .before .before .before .before .before .before .before .before .before .before .before .pre in
-    (fill-begin 4 _ _, turn-begin _ _ _ (p .4) (c .before .before .before .before .zero-floats .ensures), p .5)
+    let p = c .before .before .before .before .before .before .before .before .before .before .before .before .before .before .pre in
+    (fill-begin 4 _ _, turn-begin _ _ _ (p .4) (c .before .before .before .before .zero-floats .ensures), p .5, note-begin _ _)
 
 diffused-pixel-requires : tie.Need-diffused-pixel-requires Inv-loop μ-loop
 diffused-pixel-requires c κs =
@@ -55,37 +57,48 @@ put-rgba-requires c κs =
     let l = c .before .before .before .before .before .before in
     omega (arith, l .before .loop .inv .0 .long, start l .pre .3, l .loop-test .taken)
 
+note-position-requires : tie.Need-note-position-requires Inv-loop μ-loop
+note-position-requires c κs = search needs
+
 add-i : tie.Need-add-i Inv-loop μ-loop
 add-i c =
-    let l = c .before .before .before .before .before .before .before .before .before in
+    let l = c .before .before .before .before .before .before .before .before .before .before .before .before .before in
     omega (arith, start l .pre .1 .few, l .loop-test .taken)
 
 loop-less : tie.Need-loop-less Inv-loop μ-loop
-loop-less c = omega (arith, c .before .before .before .before .before .before .before .before .before .loop-test .taken)
+loop-less c = omega (arith, c .before .before .before .before .before .before .before .before .before .before .before .before .before .loop-test .taken)
 
 loop-again : tie.Need-loop-again Inv-loop μ-loop
 loop-again c =
-    let chosen = c .before .before .before .before .before .before .diffused-pixel .ensures in
-    let l = c .before .before .before .before .before .before .before .before .before in
-    let out = out-more _ _ _ _ (start l .pre .3) (l .before .loop .inv .0) _ _ (l .loop-test .taken) (chosen .0) (c .before .before .put-rgba .ensures) in
-    (out, chosen .1, chosen .2)
+    let put = c .before .before .before .before .before .before in
+    let chosen = put .before .before .before .before .diffused-pixel .ensures in
+    let l = put .before .before .before .before .before .before .before in
+    let inv = l .before .loop .inv in (
+      out-more _ _ _ _ (start l .pre .3) (inv .0) _ _ (l .loop-test .taken) (chosen .0 .color) (put .put-rgba .ensures),
+      chosen .1,
+      chosen .2,
+      note-more _ _ _ _ (inv .3) _ _ (l .loop-test .taken) (chosen .0) (c .before .before .note-position .ensures),
+    )
 
 same-length : tie.Need-same-length Inv-loop μ-loop
-same-length c = c .before .loop .inv .0 .long
+same-length c = c .before .loop .inv .3 .long
 
 same-length-2 : tie.Need-same-length-2 Inv-loop μ-loop
-same-length-2 c =
+same-length-2 c = c .before .loop .inv .0 .long
+
+same-length-3 : tie.Need-same-length-3 Inv-loop μ-loop
+same-length-3 c =
     let l = c .before .loop in
-    let p = c .before .before .before .before .before .before .before .before .before .before .before .before .before .before .before .pre in
+    let p = c .before .before .before .before .before .before .before .before .before .before .before .before .before .before .before .before .pre in
     turn-length _ _ _ (omega (arith, l .inv .0 .within, p .3)) (l .inv .1) ∙ sym (p .4)
 
 returns : tie.Need-returns Inv-loop μ-loop
 returns c =
     let l = c .before .loop in
-    let b = c .before .before .before .before .before .before .before .before .before .before .before .before .before .before .before in
+    let b = c .before .before .before .before .before .before .before .before .before .before .before .before .before .before .before .before in
     let p = b .pre in
     let e : l .i ≡ b .args .self .width * b .args .self .height = omega (arith, l .inv .0 .within, p .3, c .loop-test .left) in
-    (out-all _ _ _ _ (p .3) (l .inv .0) (c .loop-test .left), l .inv .1 ∙ ap (cellsBefore _) e)
+    (out-all _ _ _ _ (p .3) (l .inv .0) (c .loop-test .left), l .inv .1 ∙ ap (cellsBefore _) e, note-done _ _ _ _ (l .inv .3) e)
 
 pub draw-diffused-spec : {M : Type 1} → statement M
 draw-diffused-spec =
@@ -100,9 +113,11 @@ draw-diffused-spec =
     loop-holds
     diffused-pixel-requires
     put-rgba-requires
+    note-position-requires
     add-i
     loop-less
     loop-again
     same-length
     same-length-2
+    same-length-3
     returns)

@@ -29,9 +29,11 @@ pick-at-requires c κs = search needs
 
 returns : tie.Need-returns
 returns c =
-    let a = c .before .before .before .before .before .before .before .before .before .before .args in
+    let s = c .before .before .before .before .before .before .before .before .before .before in
+    let a = s .args in
     let at = c .before .before .before .before .before .bracket-positions .ensures in (
-      ordered-is (scaled (a .colors .now) (a .scale .now) (a .oklab .now) (a .count)) _ _ _ (at .0) (a .self .kind) _ _ _ _ _ _ _
+      ordered-is (scaled (a .colors .now) (a .scale .now) (a .oklab .now) (a .count)) _ _ _ (at .0) (s .pre .1 .some) (s .pre .1 .ranged .range)
+          (a .self .kind) _ _ _ _ _ _ _
           (c .before .before .before .before .bracket-at .ensures) (c .before .before .before .source-column .ensures) (c .before .before .source-row .ensures)
           (c .before .threshold-at .ensures) (c .pick-at .ensures),
       at .1,

@@ -1,8 +1,8 @@
 -- `drawing::Ditherer::pixel_color` meets its contract: a skipped pixel's reduced colour, and else what is chosen for its own colour. Assumes nothing.
-use mathlib.Core.Path.{_≡_, sym, _∙_}
+use mathlib.Core.Path.{_≡_, _∙_}
 use mathlib.Core.Bool.{Bool}
 use Rattle.drawing.specs.Lent.{isSkipped, Lent, lent, reducedLent}
-use Rattle.drawing.proofs.DrawnLaws.{drawn-skipped}
+use Rattle.drawing.proofs.PositionLaws.{takes-skipped}
 use Rattle.drawing.proofs.StepLaws.{plain-is, choosable, placed, skipped-as}
 use borrow.Author.Needs.{needs}
 use Rattle.drawing.proofs.Ditherer.pixel_color.Statement.{statement}
@@ -26,10 +26,14 @@ reduced-at-requires c κs = search needs
 is-skipped-requires : tie.Need-is-skipped-requires
 is-skipped-requires c κs = search needs
 
+keeping-requires : tie.Need-keeping-requires
+keeping-requires c κs = search needs
+
 returns : tie.Need-returns
 returns c =
-    let k = c .before in
-    (k .before .reduced-at .ensures ∙ sym (drawn-skipped _ _ (skipped k _ (c .if1 .taken))), start k .pre .4)
+    let k = c .before .before in
+    let kept = c .keeping .ensures in
+    (takes-skipped _ _ _ (skipped k _ (c .before .if1 .taken)) (kept .0 ∙ k .before .reduced-at .ensures) (kept .1), start k .pre .4)
 
 source-at-requires : tie.Need-source-at-requires
 source-at-requires c κs = search needs
@@ -56,6 +60,7 @@ pixel-color-spec =
     (tie.spec
     reduced-at-requires
     is-skipped-requires
+    keeping-requires
     returns
     source-at-requires
     color-at-requires
