@@ -76,7 +76,7 @@ module _ (reduced normalized : List ℕ) (oklab : List Float) (color : Normalize
       let a = subst (FlatBracket reduced normalized oklab color width) q p in
       let A = accepted reduced normalized oklab (bracket-given reduced normalized oklab color width p q .0) in
       let e = flat-ends reduced normalized oklab color width a in
-      (omega (arith, A .few, e .0), omega (arith, A .few, e .1))
+      (omega (arith, A .few, e .inside .0), omega (arith, A .few, e .inside .1))
 
 -- ---- the answer x for an opaque colour is that for its three bytes
 module _ (reduced normalized : List ℕ) (oklab : List Float) (r g b : ℕ) (color : NormalizedColor) (c : color .0 ≡ rgba r g b 255) where

@@ -14,9 +14,10 @@ use Rattle.color.proofs.Same.{equal→same}
 use Rattle.mixing.specs.Lerp.{lerpOf}
 use Rattle.shortlist.specs.Candidates.{Candidates}
 use Rattle.lookup.specs.Second.{nearestTwoOf}
-use Rattle.lookup.specs.Bracket.{bracketWith, solidAt, bracketTwo, bracketAtOf, pickAt}
+use Rattle.lookup.specs.Bracket.{bracketWith, solidAt, bracketTwo, bracketAtOf, isLight, pickAt, positionAt, choiceAt}
 use Rattle.lookup.specs.declared.BracketAt.{BracketAt}
 use Rattle.lookup.specs.declared.Bracket.{Bracket}
+use Rattle.lookup.specs.declared.Choice.{Choice}
 use Rattle.lookup.specs.declared.Two.{Two}
 use Rattle.lookup.specs.declared.Second.{Second}
 use Rattle.lookup.specs.declared.Second.the-variants.{At, Nothing}
@@ -90,22 +91,26 @@ bracket-entries cs width o c at e positive range =
     subst (λ (r : BracketAt). (r .dark < cs .count) × (r .light < cs .count)) (sym e) (bracket-inside cs width o c positive range)
 
 -- ---- what is picked
+module _ (b : Bracket) (t : Float) where
+  -- dark, with its position
+  abbrev dark : Choice
+  dark = record { color = b .dark; position = b .«dark_position» }
 
--- where the colours are equal, dark
-pub equal-dark : (b : Bracket) (t : Float) → b .dark ≡ b .light → pickAt b t ≡ b .dark
-unfolding pickAt
-equal-dark b t e = rw (equal→same (b .dark) (b .light) e)
+  not-light : isLight b t ≡ false → choiceAt b t ≡ dark
+  unfolding pickAt positionAt
+  not-light e = rw e refl
 
--- a NaN ratio picks dark
-pub nan-dark : (b : Bracket) (t : Float) → b .ratio ≡ nan → pickAt b t ≡ b .dark
-unfolding pickAt lt
-nan-dark b t e = rw (e, below t) (same (not (sameReduced (b .dark) (b .light))))
-  where
-    below : (t : Float) → lt t nan ≡ false
-    below nan = refl
-    below (inf s) = refl
-    below (fin s m e) = refl
+  -- where the colours are equal, dark
+  pub equal-dark : b .dark ≡ b .light → choiceAt b t ≡ dark
+  equal-dark e = not-light (ap (λ (u : Bool). not u && lt t (b .ratio)) (equal→same (b .dark) (b .light) e))
 
-    same : (u : Bool) → cond (u && false) (b .light) (b .dark) ≡ b .dark
-    same true = refl
-    same false = refl
+  -- a NaN ratio picks dark
+  pub nan-dark : b .ratio ≡ nan → choiceAt b t ≡ dark
+  unfolding lt
+  nan-dark e = not-light (ap (λ (x : Float). not (sameReduced (b .dark) (b .light)) && lt t x) e ∙ both (not (sameReduced (b .dark) (b .light))) t)
+    where
+      both : (u : Bool) (t : Float) → (u && lt t nan) ≡ false
+      both true nan = refl
+      both true (inf s) = refl
+      both true (fin s m e) = refl
+      both false t = refl

@@ -1,7 +1,7 @@
 -- Where entries of one reduced colour are alike, the lookups take the first entry of a colour: the nearest is one (`nearest-first`), the second where its
 -- colour is not the nearest's (`second-first`), and of a bracket dark, and light where its colour is not dark's (`bracket-first`). Such an entry is the
 -- first that is equal to its colour (`first-equal`), as a picture's index has to be: what is taken as the nearest is (`nearest-taken`), and what is picked of
--- a bracket (`picked-taken`). Assumes nothing.
+-- a bracket (`picked-taken`), whose colours are those at its positions (`bracket-ends`). Assumes nothing.
 use mathlib.Core.Path.{_≡_, refl, sym, ap, _∙_, subst}
 use mathlib.Core.Logic.{_⊎_, inl, inr}
 use mathlib.Core.List.{List, [], _∷_}
@@ -37,7 +37,7 @@ use Rattle.shortlist.proofs.RankedLaws.{before-place, before-asymmetric}
 use Rattle.shortlist.proofs.ShortlistLaws.{shortlist-is}
 use Rattle.lookup.specs.Second.{those, leastAmong, secondIn, secondOf, mixable, mixError, nearestTwoOf}
 use Rattle.lookup.specs.Bracket.{bracketWith, bracketTwo, bracketAtOf, colored, bracketOf, isLight, pickAt, positionAt, choiceAt}
-use Rattle.lookup.specs.Positions.{Alike, firstEqual, FirstOfColor, Takes}
+use Rattle.lookup.specs.Positions.{Alike, firstEqual, FirstOfColor, Takes, EndsOf}
 use Rattle.lookup.specs.declared.BracketAt.{BracketAt}
 use Rattle.lookup.specs.declared.Bracket.{Bracket}
 use Rattle.lookup.specs.declared.Choice.{Choice}
@@ -205,6 +205,11 @@ module _ (cs : Candidates) (positive : 0 < cs .count) (range : (k : ℕ) → k <
     inside = subst (λ (m : ℕ). m < cs .count) (sym k) (nearest-inside (cs .oklab) (cs .count) o positive);
     position = λ alike. k ∙ sym (first-equal cs (nearestOf cs o) (nearest-first cs positive range alike o));
   }
+
+  -- a bracket's colours are those at its positions
+  pub bracket-ends : (width : ℕ) (o : Oklab) (c : NormalizedColor) → EndsOf cs (bracketOf cs width o c)
+  unfolding colored
+  bracket-ends width o c = record { inside = bracket-inside cs width o c positive range; dark = refl; light = refl }
 
   pub picked-taken : (width : ℕ) (o : Oklab) (c : NormalizedColor) (t : Float) (r : Choice) → r ≡ choiceAt (bracketOf cs width o c) t
       → Takes cs (pickAt (bracketOf cs width o c) t) r

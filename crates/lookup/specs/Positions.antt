@@ -1,4 +1,4 @@
--- Which entry is taken: the first of its reduced colour. Definitions only.
+-- Which entry is taken: the first of its reduced colour; and where a bracket's entries stand. Definitions only.
 -- Written from document 02, Ask 4: "For a picture's index the position is the first entry equal to the chosen reduced colour, also where `nearest_two`
 -- takes a later twin of `a`."
 use Prim.Native.Nat.{ℕ, _<_}
@@ -7,6 +7,7 @@ use Rattle.lists.specs.First.{firstThat}
 use Rattle.color.specs.declared.ReducedColor.{ReducedColor}
 use Rattle.color.specs.Color.{sameReduced}
 use Rattle.shortlist.specs.Candidates.{Candidates}
+use Rattle.lookup.specs.declared.Bracket.{Bracket}
 use Rattle.lookup.specs.declared.Choice.{Choice}
 
 -- twins, which are entries of the same reduced colour by all four bytes, are alike in all: as in a list that is made of its reduced colours
@@ -28,3 +29,9 @@ pub record Takes (cs : Candidates) (c : ReducedColor) (r : Choice) : Type 0 wher
   pub color : r .color ≡ c
   pub inside : r .position < cs .count
   pub position : Alike cs → r .position ≡ firstEqual cs c
+
+-- dark and light of a bracket are the entries at its positions
+pub record EndsOf (cs : Candidates) (b : Bracket) : Type 0 where
+  pub inside : (b .«dark_position» < cs .count) × (b .«light_position» < cs .count)
+  pub dark : b .dark ≡ cs .reduced (b .«dark_position»)
+  pub light : b .light ≡ cs .reduced (b .«light_position»)

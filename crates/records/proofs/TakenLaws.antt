@@ -23,9 +23,10 @@ use Rattle.lookup.specs.declared.Second.the-variants.{At, Nothing}
 use Rattle.lookup.specs.declared.Bracket.{Bracket}
 use Rattle.lookup.specs.declared.FoundBracket.the-variants as bracket
 use Rattle.lookup.specs.Second.{nearestTwoOf, NearestTwo}
-use Rattle.lookup.specs.Bracket.{bracketOf, colored}
+use Rattle.lookup.specs.Bracket.{bracketOf}
+use Rattle.lookup.specs.Positions.{EndsOf}
 use Rattle.lookup.proofs.TwoLaws.{first-inside, second-inside, nearest-two-is}
-use Rattle.lookup.proofs.BracketLaws.{bracket-inside}
+use Rattle.lookup.proofs.PositionLaws.{bracket-ends}
 use Rattle.lookup.proofs.AnswerLaws.{in-range}
 use Rattle.records.specs.declared.Taken.{Taken}
 use Rattle.records.specs.declared.FoundRecord.the-variants as one
@@ -33,7 +34,7 @@ use Rattle.records.specs.declared.FoundRecords.{FoundRecords}
 use Rattle.records.specs.declared.FoundRecords.the-variants as both
 use Rattle.records.specs.Lists.{recordAt, candidatesOf, recordReplies, numberBy, recordsNumber}
 use Rattle.records.specs.Answers.{numberOfRecords, takenAt, nearestRecordAnswer, recordsAt, nearestTwoRecordsAnswer, recordsBracketAnswer}
-use Rattle.records.specs.Answers.{NearestRecord, NearestTwoRecords, RecordsBracket, TakenFrom, EachTaken, positionsOf, BracketFrom}
+use Rattle.records.specs.Answers.{NearestRecord, NearestTwoRecords, RecordsBracket, TakenFrom, EachTaken, positionsOf}
 use Rattle.records.proofs.ListLaws.{accepted}
 
 module _ (list : List CandidateColor) (color : NormalizedColor) where
@@ -110,12 +111,11 @@ module _ (list : List CandidateColor) (color : NormalizedColor) where
         same n (At k) = refl
 
     -- ---- the bracket
-    pub bracket-taken : {b : Bracket} → RecordsBracket list color width (bracket.Of b) → BracketFrom list b
-    unfolding numberBy colored
+    pub bracket-taken : {b : Bracket} → RecordsBracket list color width (bracket.Of b) → EndsOf cs b
+    unfolding numberBy
     bracket-taken {b} a =
         let z : firstReply (recordReplies list) ≡ 0 = sym (a .number) in
         let s : bracket.Of b ≡ recordsBracketAnswer list color width 0 = answered _ _ _ a ∙ ap (recordsBracketAnswer list color width) z in
         let e : b ≡ bracketOf cs width (toOklab color) color = cc in
         let A = accepted list z in
-        subst (BracketFrom list) (sym e)
-        (record { inside = bracket-inside cs width (toOklab color) color (A .positive) (A .range); dark = refl; light = refl })
+        subst (EndsOf cs) (sym e) (bracket-ends cs (A .positive) (A .range) width (toOklab color) color)

@@ -18,7 +18,6 @@ use Rattle.lookup.specs.declared.Found.{Found}
 use Rattle.lookup.specs.declared.Found.the-variants as found
 use Rattle.lookup.specs.declared.FoundTwo.{FoundTwo}
 use Rattle.lookup.specs.declared.FoundTwo.the-variants as two
-use Rattle.lookup.specs.declared.Bracket.{Bracket}
 use Rattle.lookup.specs.declared.FoundBracket.{FoundBracket}
 use Rattle.lookup.specs.declared.FoundBracket.the-variants as bracket
 use Rattle.lookup.specs.Second.{nearestTwoOf}
@@ -101,9 +100,3 @@ abbrev pub positionsOf : FoundRecords → Two
 positionsOf (both.Two a b) = record { first = a .position; second = At (b .position) }
 positionsOf (both.One a) = record { first = a .position; second = Nothing }
 positionsOf (both.Refused n) = record { first = 0; second = Nothing }
-
--- the colours of a bracket are those of the records at its positions
-pub record BracketFrom (list : List CandidateColor) (b : Bracket) : Type 0 where
-  pub inside : (b .«dark_position» < length list) × (b .«light_position» < length list)
-  pub dark : b .dark ≡ recordAt list (b .«dark_position») .reduced
-  pub light : b .light ≡ recordAt list (b .«light_position») .reduced
