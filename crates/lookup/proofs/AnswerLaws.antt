@@ -2,21 +2,16 @@
 -- that of an accepted list; its number is the lowest that applies; the position answered is the first of the least distances (`flat-least`), and the
 -- two answered are what document 01 says of them (`flat-second`), which no other two are (`flat-second-only`). Assumes nothing.
 use mathlib.Core.Path.{_≡_, refl, sym, ap, _∙_, subst}
-use mathlib.Core.Bool.{Bool, true, false, cond, not}
 use mathlib.Core.List.{List}
-use Prim.Native.Nat.{ℕ, zero, suc, _+_, _*_, _/_, _<_}
+use Prim.Native.Nat.{ℕ, _+_, _*_, _/_, _<_}
 use native.Mathlib.Omega.{arith}
-use borrow.Author.Tests.{not-false}
 use lib.Dec.{T}
 use lib.ListN.{length, getD}
 use lib.Ieee.{Float, lt}
 use Rattle.lists.specs.Least.{Least}
 use Rattle.lists.proofs.Bools.{holds}
-use Rattle.replies.specs.Replies.{Reply, firstReply, risingFrom, Lowest}
-use Rattle.replies.specs.Answers.{Answers}
+use Rattle.replies.specs.Replies.{firstReply, Lowest}
 use Rattle.replies.proofs.AnswerLaws.{answered, answers-lowest, value-refused, value-granted}
-use Rattle.replies.proofs.ReplyLaws.{reply-none}
-use Rattle.replies.proofs.LowestLaws.{lowest-is}
 use Rattle.color.specs.declared.NormalizedColor.{NormalizedColor}
 use Rattle.color.specs.declared.Oklab.{Oklab}
 use Rattle.color.specs.Color.{rgbaAt}

@@ -92,22 +92,29 @@ bracket-entries cs width o c at e positive range =
 
 -- ---- what is picked
 module _ (b : Bracket) (t : Float) where
-  -- dark, with its position
+  -- dark, and light, with their positions
   abbrev dark : Choice
   dark = record { color = b .dark; position = b .«dark_position» }
 
-  not-light : isLight b t ≡ false → choiceAt b t ≡ dark
+  abbrev light : Choice
+  light = record { color = b .light; position = b .«light_position» }
+
+  pub picks-light : isLight b t ≡ true → choiceAt b t ≡ light
   unfolding pickAt positionAt
-  not-light e = rw e refl
+  picks-light e = rw e refl
+
+  pub picks-dark : isLight b t ≡ false → choiceAt b t ≡ dark
+  unfolding pickAt positionAt
+  picks-dark e = rw e refl
 
   -- where the colours are equal, dark
   pub equal-dark : b .dark ≡ b .light → choiceAt b t ≡ dark
-  equal-dark e = not-light (ap (λ (u : Bool). not u && lt t (b .ratio)) (equal→same (b .dark) (b .light) e))
+  equal-dark e = picks-dark (ap (λ (u : Bool). not u && lt t (b .ratio)) (equal→same (b .dark) (b .light) e))
 
   -- a NaN ratio picks dark
   pub nan-dark : b .ratio ≡ nan → choiceAt b t ≡ dark
   unfolding lt
-  nan-dark e = not-light (ap (λ (x : Float). not (sameReduced (b .dark) (b .light)) && lt t x) e ∙ both (not (sameReduced (b .dark) (b .light))) t)
+  nan-dark e = picks-dark (ap (λ (x : Float). not (sameReduced (b .dark) (b .light)) && lt t x) e ∙ both (not (sameReduced (b .dark) (b .light))) t)
     where
       both : (u : Bool) (t : Float) → (u && lt t nan) ≡ false
       both true nan = refl

@@ -16,6 +16,7 @@ use lib.Ieee.Fits.{and-i}
 use Rattle.floats.specs.Bounds.{Within}
 use Rattle.floats.proofs.Range.{or-r}
 use Rattle.floats.proofs.Order.{lt-irreflexive, lt-transitive}
+use Rattle.lists.specs.First.{firstThat}
 use Rattle.lists.specs.Least.{leastOf}
 use Rattle.lists.specs.Order.{In, Ordered}
 use Rattle.lists.proofs.Bools.{holds, fails, is-true, clash}
@@ -23,11 +24,12 @@ use Rattle.lists.proofs.FirstLaws.{first-is, first-only}
 use Rattle.lists.proofs.LeastLaws.{least-inside, no-earlier}
 use Rattle.lists.proofs.OrderLaws.{all-in, all-of, in-at, ordered-earlier}
 use Rattle.color.specs.declared.NormalizedColor.{NormalizedColor}
+use Rattle.color.specs.declared.ReducedColor.{ReducedColor}
 use Rattle.color.specs.declared.Oklab.{Oklab}
 use Rattle.color.specs.Color.{sameReduced}
 use Rattle.color.specs.Oklab.{allInRange, sqdistOf}
 use Rattle.color.proofs.Distances.{all-in-range}
-use Rattle.color.proofs.Same.{same→equal, same-self, equal→same}
+use Rattle.color.proofs.Same.{same→equal, equal→same}
 use Rattle.mixing.specs.Lerp.{shareOf, between, mixResidual}
 use Rattle.shortlist.specs.Candidates.{Candidates}
 use Rattle.shortlist.specs.Nearest.{distances, nearestOf}
@@ -48,18 +50,23 @@ use Rattle.lookup.proofs.TwoLaws.{second-inside}
 use Rattle.lookup.proofs.BracketLaws.{bracket-inside}
 
 -- ---- the first of its colour is the first entry equal to it
-pub first-equal : (cs : Candidates) (k : ℕ) → FirstOfColor cs k → firstEqual cs (cs .reduced k) ≡ k
-unfolding firstEqual
-first-equal cs k f =
-    first-only (first-is same (cs .count))
+-- entry k has the colour c, and no earlier one has
+pub first-of-equals : (reduced : ℕ → ReducedColor) (n : ℕ) (c : ReducedColor) (k : ℕ) → k < n → reduced k ≡ c → ((j : ℕ) → j < k → reduced j ≡ c → ⊥)
+    → firstThat (λ j. sameReduced (reduced j) c) n ≡ k
+first-of-equals reduced n c k inside equal first =
+    first-only (first-is same n)
     (record {
-      inside = omega (arith, f .inside);
-      before = λ j l. not-T (same j) (λ t. f .first j l (same→equal (cs .reduced j) (cs .reduced k) (is-true (same j) t)));
-      passes = λ _. holds (same-self (cs .reduced k));
+      inside = omega arith;
+      before = λ j l. not-T (same j) (λ t. first j l (same→equal (reduced j) c (is-true (same j) t)));
+      passes = λ _. holds (equal→same (reduced k) c equal);
     })
   where
     same : ℕ → Bool
-    same j = sameReduced (cs .reduced j) (cs .reduced k)
+    same j = sameReduced (reduced j) c
+
+pub first-equal : (cs : Candidates) (k : ℕ) → FirstOfColor cs k → firstEqual cs (cs .reduced k) ≡ k
+unfolding firstEqual
+first-equal cs k f = first-of-equals (cs .reduced) (cs .count) (cs .reduced k) k (f .inside) refl (f .first)
 
 -- ---- the second is the first of its like in a list
 in-those : (p : ℕ → Bool) (ks : List ℕ) (k : ℕ) → In k ks → p k ≡ true → In k (those p ks)

@@ -1,17 +1,17 @@
 -- The index of a colour that the palette has: `indexOf` is the first entry equal to it (`index-is`), and nothing else is (`index-only`). Assumes nothing.
-use mathlib.Core.Path.{_≡_}
+use mathlib.Core.Path.{_≡_, sym}
 use mathlib.Core.Bool.{Bool}
 use mathlib.Core.List.{List}
 use Prim.Native.Nat.{ℕ, _<_}
 use native.Mathlib.Nat.{lt-of-le-of-lt}
-use native.Mathlib.Omega.{arith}
-use lib.Dec.{T, T-not, not-T}
+use lib.Dec.{T, T-not}
 use Rattle.lists.specs.First.{First}
 use Rattle.lists.proofs.Bools.{holds, is-true}
-use Rattle.lists.proofs.FirstLaws.{first-is, first-only, first-below}
+use Rattle.lists.proofs.FirstLaws.{first-is, first-below}
 use Rattle.color.specs.declared.ReducedColor.{ReducedColor}
 use Rattle.color.specs.Color.{reducedAt, sameReduced}
 use Rattle.color.proofs.Same.{same→equal, equal→same}
+use Rattle.lookup.proofs.PositionLaws.{first-of-equals}
 use Rattle.quantize.specs.Quantize.{indexOf, IndexOf}
 
 module _ (palette : List ℕ) (n : ℕ) (c : ReducedColor) where
@@ -34,12 +34,5 @@ module _ (palette : List ℕ) (n : ℕ) (c : ReducedColor) where
       }
 
   pub index-only : (k : ℕ) → IndexOf palette n c k → k ≡ indexOf palette n c
-  unfolding same
-  index-only k i =
-      first-only
-      (record {
-        inside = omega (arith, i .inside);
-        before = λ j l. not-T (same j) (λ t. i .first j l (same→equal (reducedAt palette j) c (is-true (same j) t)));
-        passes = λ _. holds (equal→same (reducedAt palette k) c (i .equal));
-      })
-      first
+  unfolding indexOf
+  index-only k i = sym (first-of-equals (reducedAt palette) n c k (i .inside) (i .equal) (i .first))
