@@ -1,7 +1,7 @@
 /*
- * Calls with larger inputs than the recorded list has: pictures of 64x64 in every kind, 65,536 candidates and lookups over
- * them, PAM files. Nothing is recorded for them: each must have its number here, and every answer is kept, so that the board's
- * are compared with the host's.
+ * Calls with larger inputs than the recorded list has: pictures of 64x64 in every kind but the retired ones, 65,536 candidates
+ * and lookups over them, PAM files. Nothing is recorded for them: each must have its number here, and every answer is kept, so
+ * that the board's are compared with the host's.
  */
 #include <string.h>
 
@@ -88,6 +88,12 @@ static void tell(const char *name)
 
 #define TABLES reduction, 256, scale, 256
 
+/* All but the two that are retired. */
+static const uint32_t kinds[] = {BADGE_OFF,    BADGE_BAYER_2X2, BADGE_BAYER_4X4, BADGE_BAYER_8X8,      BADGE_CHECKER,
+                                 BADGE_LINE_V, BADGE_LINE_H,    BADGE_ATKINSON,  BADGE_FLOYD_STEINBERG};
+
+enum { KINDS = sizeof kinds / sizeof kinds[0] };
+
 static size_t cells_of(uint32_t kind)
 {
     return kind >= BADGE_ATKINSON ? 3 * PIXELS : 0;
@@ -133,8 +139,8 @@ static void quantize_pictures(void)
 {
     for (unsigned picture = 0; picture < 3; picture++) {
         with_picture(picture);
-        for (uint32_t kind = BADGE_OFF; kind <= BADGE_FLOYD_STEINBERG; kind++)
-            quantize(3 + picture, kind, picture == 2 ? 16 : 256);
+        for (size_t k = 0; k < KINDS; k++)
+            quantize(3 + picture, kinds[k], picture == 2 ? 16 : 256);
     }
     tell("quantize_pixels_64x64");
 }
@@ -143,8 +149,8 @@ static void dither_pictures(void)
 {
     for (unsigned picture = 0; picture < 3; picture++) {
         with_picture(picture);
-        for (uint32_t kind = BADGE_OFF; kind <= BADGE_FLOYD_STEINBERG; kind++)
-            dither(3 + picture, kind, 256, BADGE_ACCEPTED);
+        for (size_t k = 0; k < KINDS; k++)
+            dither(3 + picture, kinds[k], 256, BADGE_ACCEPTED);
         dither(3 + picture, BADGE_FLOYD_STEINBERG, 2, BADGE_REFUSED_TILE_OVER);
     }
     tell("dither_to_mode_64x64");

@@ -23,7 +23,7 @@
 
 uint64_t random_state;
 
-enum { CALLS = 16, NUMBERS = BADGE_REFUSED_PAM_PIXELS + 1 };
+enum { CALLS = 16, NUMBERS = BADGE_REFUSED_RETIRED_KIND + 1 };
 
 /* The numbers that a call may give beside 0, as bits. */
 enum {
@@ -38,6 +38,7 @@ enum {
     NO_MATRIX = 1 << BADGE_REFUSED_NO_MATRIX,
     HEADER = 1 << BADGE_REFUSED_PAM_HEADER,
     PIXELS = 1 << BADGE_REFUSED_PAM_PIXELS,
+    RETIRED = 1 << BADGE_REFUSED_RETIRED_KIND,
     LIST = LENGTH | ENTRIES | COMPONENT
 };
 
@@ -48,16 +49,16 @@ static const struct {
 } calls[CALLS] = {
     {"to_oklab", try_to_oklab, 0},
     {"oklab_sqdist", try_oklab_sqdist, COMPONENT},
-    {"ordered_threshold", try_ordered_threshold, KIND | NO_MATRIX},
+    {"ordered_threshold", try_ordered_threshold, KIND | RETIRED | NO_MATRIX},
     {"bracket_width", try_bracket_width, KIND},
     {"lerp", try_lerp, 0},
     {"nearest", try_nearest, LIST},
     {"nearest_two", try_nearest_two, LIST},
     {"ordered_bracket", try_ordered_bracket, LIST},
-    {"pick", try_pick, KIND | LENGTH | NO_MATRIX},
+    {"pick", try_pick, KIND | RETIRED | LENGTH | NO_MATRIX},
     {"candidate_colors_in", try_candidate_colors_in, KIND | SIZE | LENGTH | MANY},
-    {"quantize_pixels", try_quantize_pixels, KIND | SIZE | LENGTH | ENTRIES},
-    {"dither_to_mode", try_dither_to_mode, KIND | SIZE | LENGTH | TILES | MANY | OVER},
+    {"quantize_pixels", try_quantize_pixels, KIND | RETIRED | SIZE | LENGTH | ENTRIES},
+    {"dither_to_mode", try_dither_to_mode, KIND | RETIRED | SIZE | LENGTH | TILES | MANY | OVER},
     {"pam_size", try_pam_size, HEADER | SIZE | PIXELS},
     {"read_pam", try_read_pam, HEADER | SIZE | PIXELS | LENGTH},
     {"pam_length", try_pam_length, HEADER | SIZE},
@@ -70,6 +71,15 @@ static uint64_t given[CALLS][NUMBERS];
 static bool may(size_t k, uint32_t number)
 {
     return number == BADGE_ACCEPTED || (number < NUMBERS && (calls[k].refusals >> number & 1) != 0);
+}
+
+/* Whether some call may give a number; one that none may give has no column in the table. */
+static bool some_may(uint32_t number)
+{
+    for (size_t k = 0; k < CALLS; k++)
+        if (may(k, number))
+            return true;
+    return false;
 }
 
 /* Says which call was made when the archive touched what it may not. */
@@ -101,23 +111,31 @@ static void make_call(void)
     lent_return();
 }
 
+/* Prints a call's line of the table. Answers whether it gave each of its numbers. */
+static bool report_call(size_t k)
+{
+    bool all_met = true;
+    printf("\n%-20s", calls[k].name);
+    for (uint32_t n = 0; n < NUMBERS; n++) {
+        all_met = all_met && (!may(k, n) || given[k][n] != 0);
+        if (may(k, n))
+            printf("%9" PRIu64, given[k][n]);
+        else if (some_may(n))
+            printf("%9s", "-");
+    }
+    return all_met;
+}
+
 /* Prints how often each number was given. A long run that never met one of them has not tried it. */
 static bool report(uint64_t count)
 {
     bool all_met = true;
     printf("%-20s", "number");
-    for (int n = 0; n < NUMBERS; n++)
-        printf("%9d", n);
-    for (size_t k = 0; k < CALLS; k++) {
-        printf("\n%-20s", calls[k].name);
-        for (uint32_t n = 0; n < NUMBERS; n++) {
-            all_met = all_met && (!may(k, n) || given[k][n] != 0);
-            if (may(k, n))
-                printf("%9" PRIu64, given[k][n]);
-            else
-                printf("%9s", "-");
-        }
-    }
+    for (uint32_t n = 0; n < NUMBERS; n++)
+        if (some_may(n))
+            printf("%9" PRIu32, n);
+    for (size_t k = 0; k < CALLS; k++)
+        all_met = report_call(k) && all_met;
     printf("\nseed %" PRIu64 ": %" PRIu64 " calls, all as the table has it\n", seed, count);
     return all_met;
 }

@@ -4,11 +4,17 @@
 #include "random.h"
 #include "table.h"
 
+/* The nine kinds that are accepted. */
+static const uint32_t kinds[] = {BADGE_OFF,    BADGE_BAYER_2X2, BADGE_BAYER_4X4, BADGE_BAYER_8X8,      BADGE_CHECKER,
+                                 BADGE_LINE_V, BADGE_LINE_H,    BADGE_ATKINSON,  BADGE_FLOYD_STEINBERG};
+
 uint32_t make_kind(void)
 {
     if (once_in(25))
         return once_in(2) ? BADGE_FLOYD_STEINBERG + 1 : (uint32_t)random_bits();
-    return (uint32_t)below(BADGE_FLOYD_STEINBERG + 1);
+    if (once_in(10)) /* often enough to meet all that may be wrong besides */
+        return once_in(2) ? BADGE_STIPPLE_V : BADGE_STIPPLE_H;
+    return kinds[below(sizeof kinds / sizeof kinds[0])];
 }
 
 uint32_t make_shift(void)

@@ -15,7 +15,7 @@ typedef struct {
     size_t pixels; /* how many are lent; the sizes may say something else */
 } Size;
 
-uint32_t make_kind(void);
+uint32_t make_kind(void);    /* now and again a retired one, or a number that has none */
 uint32_t make_shift(void);
 uint32_t make_place(void);   /* a column or row, anywhere */
 float make_component(void);  /* of an Oklab colour */

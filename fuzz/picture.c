@@ -95,10 +95,11 @@ bool overflows(const Rooms *rooms)
     return rooms->count > rooms->places->len / 4;
 }
 
-uint32_t rooms_number(const Picture *p, const Rooms *rooms, bool kind, bool size, bool length)
+uint32_t rooms_number(const Picture *p, const Rooms *rooms, uint32_t kind, bool size, bool length)
 {
-    if (kind || shift_wrong(p->shift))
-        return BADGE_REFUSED_KIND_OR_SHIFT;
+    uint32_t number = kind_number(kind, shift_wrong(p->shift));
+    if (number != BADGE_ACCEPTED)
+        return number;
     if (size || size_wrong(p->size.width, p->size.height))
         return BADGE_REFUSED_SIZE;
     length = length || picture_wrong(p) || rooms_wrong(rooms->places->len, rooms->oklab->len);

@@ -36,8 +36,9 @@ typedef struct {
  * caller frees the list. */
 Rooms make_rooms(const Picture *p);
 
-/* The number of the calls that have rooms for candidates, up to a wrong length; each of the three may be wrong elsewhere. */
-uint32_t rooms_number(const Picture *p, const Rooms *rooms, bool kind, bool size, bool length);
+/* The number of the calls that have rooms for candidates, up to a wrong length; size and length may be wrong elsewhere. A call
+ * that takes no kind is as one with BADGE_OFF. */
+uint32_t rooms_number(const Picture *p, const Rooms *rooms, uint32_t kind, bool size, bool length);
 
 /* More candidates than places. */
 bool overflows(const Rooms *rooms);

@@ -20,7 +20,7 @@ uint32_t try_candidate_colors_in(void)
     uint32_t number = badge_candidate_colors_in(
         p.shift, p.size.width, p.size.height, p.reduction->at, p.reduction->len, p.scale->at, p.scale->len, p.pixels->at,
         p.pixels->len, rooms.places->at, rooms.places->len, rooms.oklab->at, rooms.oklab->len, count->at);
-    uint32_t expected = rooms_number(&p, &rooms, false, false, false);
+    uint32_t expected = rooms_number(&p, &rooms, BADGE_OFF, false, false);
     if (expected == BADGE_ACCEPTED && overflows(&rooms)) {
         check(number == BADGE_REFUSED_TOO_MANY_CANDIDATES, "too many candidates, and another number");
         check_overflow(&rooms);
@@ -52,8 +52,9 @@ static uint32_t quantize_number(const Picture *p, uint32_t kind, const Lent *pal
                                 const Lent *cells)
 {
     size_t pixels = (size_t)p->size.width * p->size.height;
-    if (kind_wrong(kind) || shift_wrong(p->shift))
-        return BADGE_REFUSED_KIND_OR_SHIFT;
+    uint32_t number = kind_number(kind, shift_wrong(p->shift));
+    if (number != BADGE_ACCEPTED)
+        return number;
     if (size_wrong(p->size.width, p->size.height))
         return BADGE_REFUSED_SIZE;
     if (picture_wrong(p) || palette->len % 4 != 0 || indices->len != pixels || out->len != 4 * pixels
@@ -107,7 +108,7 @@ static uint32_t mode_number(const Picture *p, const Rooms *rooms, const Mode *m)
     size_t pixels = (size_t)p->size.width * p->size.height;
     bool size = origin_wrong(m->origin_x, p->size.width) || origin_wrong(m->origin_y, p->size.height);
     bool length = m->out->len != 4 * pixels || cells_wrong(m->cells->len, m->kind, pixels);
-    uint32_t number = rooms_number(p, rooms, kind_wrong(m->kind), size, length);
+    uint32_t number = rooms_number(p, rooms, m->kind, size, length);
     if (number != BADGE_ACCEPTED)
         return number;
     if (tile_wrong(m->tile_width, m->tile_height, m->limit))

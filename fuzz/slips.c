@@ -1,12 +1,19 @@
 /*
  * Shows that the fuzz can fail: linked with --wrap, each call below goes to the archive and then makes the slip whose number
- * the variable SLIP has. With no such variable nothing is changed.
+ * the variable SLIP has. A slip that draws a retired kind gives the archive another kind for it. With no such variable nothing
+ * is changed.
  */
 #include <stdbool.h>
 #include <stdlib.h>
 #include <string.h>
 
 #include "badge_dither.h"
+#include "table.h"
+
+#define THRESHOLD uint32_t kind, uint32_t x, uint32_t y, float *threshold
+#define PICK                                                                                                                 \
+    const uint8_t *dark, size_t dark_len, const uint8_t *light, size_t light_len, float ratio, uint32_t kind, uint32_t x,    \
+        uint32_t y, uint8_t *chosen, size_t chosen_len
 
 #define SIZES uint32_t shift, uint32_t kind, uint32_t width, uint32_t height
 #define TABLES const uint8_t *reduction, size_t reduction_len, const uint8_t *scale, size_t scale_len
@@ -33,6 +40,10 @@
     LIST, uint64_t width, uint8_t *dark, size_t dark_len, uint8_t *light, size_t light_len, float *ratio,                    \
         uint32_t *dark_position, uint32_t *light_position
 
+uint32_t __real_badge_ordered_threshold(THRESHOLD);
+uint32_t __wrap_badge_ordered_threshold(THRESHOLD);
+uint32_t __real_badge_pick(PICK);
+uint32_t __wrap_badge_pick(PICK);
 uint32_t __real_badge_quantize_pixels(QUANTIZE);
 uint32_t __wrap_badge_quantize_pixels(QUANTIZE);
 uint32_t __real_badge_dither_to_mode(TO_MODE);
@@ -83,12 +94,46 @@ static size_t last_twin(const void *list, size_t bytes, size_t entries, size_t k
     return last;
 }
 
+/* The kind that the archive is given: another one for a retired kind, where the slip has this number. */
+static uint32_t drawn_as(uint32_t kind, int number, uint32_t retired, uint32_t other)
+{
+    return slip() == number && kind == retired ? other : kind;
+}
+
+uint32_t __wrap_badge_ordered_threshold(THRESHOLD)
+{
+    uint32_t given = drawn_as(kind, 39, BADGE_STIPPLE_V, BADGE_LINE_V); /* kind 5 given to another */
+    uint32_t number = __real_badge_ordered_threshold(given, x, y, threshold);
+    bool retired = number == BADGE_REFUSED_RETIRED_KIND;
+    switch (slip()) {
+    case 40: if (retired) number = BADGE_REFUSED_NO_MATRIX; break; /* 9 for 15 */
+    case 41: if (retired) *threshold = 0.5f; break;                /* writes behind a pointer where it refuses */
+    default: break;
+    }
+    return number;
+}
+
+uint32_t __wrap_badge_pick(PICK)
+{
+    uint32_t given = drawn_as(kind, 42, BADGE_STIPPLE_H, BADGE_LINE_H); /* kind 6 still drawn */
+    uint32_t number = __real_badge_pick(dark, dark_len, light, light_len, ratio, given, x, y, chosen, chosen_len);
+    bool retired = number == BADGE_REFUSED_RETIRED_KIND, length = dark_len != 4 || light_len != 4 || chosen_len != 4;
+    switch (slip()) {
+    case 43: if (retired) number = BADGE_REFUSED_KIND_OR_SHIFT; break;    /* 1 for 15 */
+    case 44: if (retired && length) number = BADGE_REFUSED_LENGTH; break; /* 3 before 15 */
+    default: break;
+    }
+    return number;
+}
+
 uint32_t __wrap_badge_quantize_pixels(QUANTIZE)
 {
-    uint32_t number = __real_badge_quantize_pixels(shift, kind, width, height, reduction, reduction_len, scale, scale_len,
+    uint32_t given = drawn_as(kind, 45, BADGE_STIPPLE_H, BADGE_LINE_H); /* kind 6 still drawn */
+    uint32_t number = __real_badge_quantize_pixels(shift, given, width, height, reduction, reduction_len, scale, scale_len,
                                                    palette, palette_len, pixels, pixels_len, indices, indices_len, out,
                                                    out_len, cells, cells_len);
     bool accepted = number == BADGE_ACCEPTED, length = number == BADGE_REFUSED_LENGTH;
+    bool retired = number == BADGE_REFUSED_RETIRED_KIND;
     switch (slip()) {
     case 1: if (pixels_len) read_byte(pixels + pixels_len); break; /* reads after a buffer */
     case 2: if (palette_len) read_byte(palette - 1); break;        /* reads before one */
@@ -101,6 +146,9 @@ uint32_t __wrap_badge_quantize_pixels(QUANTIZE)
     case 33: /* a later twin of the palette */
         if (accepted && indices_len) indices[0] = (uint8_t)last_twin(palette, 4, palette_len / 4, indices[0]);
         break;
+    case 46: if (is_retired(kind) && shift_wrong(shift)) number = BADGE_REFUSED_RETIRED_KIND; break; /* 15 before 1 */
+    case 47: if (retired && size_wrong(width, height)) number = BADGE_REFUSED_SIZE; break;           /* 2 before 15 */
+    case 48: if (retired && out_len) out[0] ^= 1; break; /* changes a buffer where it refuses */
     default: break;
     }
     return number;
@@ -108,12 +156,15 @@ uint32_t __wrap_badge_quantize_pixels(QUANTIZE)
 
 uint32_t __wrap_badge_dither_to_mode(TO_MODE)
 {
+    uint32_t given = drawn_as(kind, 49, BADGE_STIPPLE_V, BADGE_LINE_V); /* kind 5 given to another */
     uint32_t number = __real_badge_dither_to_mode(
-        shift, kind, width, height, origin_x, origin_y, tile_width, tile_height, limit, has_zero, zero_r, zero_g, zero_b,
+        shift, given, width, height, origin_x, origin_y, tile_width, tile_height, limit, has_zero, zero_r, zero_g, zero_b,
         zero_a, reduction, reduction_len, scale, scale_len, pixels, pixels_len, places, places_len, oklab, oklab_len, out,
         out_len, cells, cells_len, count, tile);
     bool accepted = number == BADGE_ACCEPTED, over = number == BADGE_REFUSED_TILE_OVER;
-    bool many = number == BADGE_REFUSED_TOO_MANY_CANDIDATES;
+    bool many = number == BADGE_REFUSED_TOO_MANY_CANDIDATES, retired = number == BADGE_REFUSED_RETIRED_KIND;
+    bool origin = origin_wrong(origin_x, width) || origin_wrong(origin_y, height);
+    bool tiles = tile_wrong(tile_width, tile_height, limit);
     switch (slip()) {
     case 9: if (many && places_len) places[places_len - 1] = 1; break;  /* does not clear all that it has to */
     case 10: if (over && cells_len) cells[cells_len - 1] = 1.0f; break; /* nor here */
@@ -123,6 +174,10 @@ uint32_t __wrap_badge_dither_to_mode(TO_MODE)
     case 14: if (over) *tile = 0xffffffffu; break;                      /* invents a tile */
     case 15: if (over) number = 1000; break;                            /* a number that there is not */
     case 16: if (accepted && oklab_len) oklab[oklab_len - 1] += 1.0f; break;
+    case 50: if (is_retired(kind) && shift_wrong(shift)) number = BADGE_REFUSED_RETIRED_KIND; break; /* 15 before 1 */
+    case 51: if (retired && origin) number = BADGE_REFUSED_SIZE; break;                              /* 2 before 15 */
+    case 52: if (retired && tiles) number = BADGE_REFUSED_TILES; break;                              /* 5 before 15 */
+    case 53: if (retired) *count = 0; break; /* writes behind a pointer where it refuses */
     default: break;
     }
     return number;

@@ -170,7 +170,7 @@ static void over_components(bool by_steps)
     }
 }
 
-/* All kinds and shifts, and one more of each, which is refused. */
+/* All kinds and shifts, and one more of each, which is refused, as the retired kinds are. */
 static void over_kinds(bool by_steps)
 {
     now.side = by_steps ? 3 : SIDE;

@@ -16,6 +16,12 @@ static inline bool kind_wrong(uint32_t kind)
     return kind > BADGE_FLOYD_STEINBERG;
 }
 
+/* The stipples, whose numbers are given to no other kind. */
+static inline bool is_retired(uint32_t kind)
+{
+    return kind == BADGE_STIPPLE_V || kind == BADGE_STIPPLE_H;
+}
+
 static inline bool is_diffusion(uint32_t kind)
 {
     return kind == BADGE_ATKINSON || kind == BADGE_FLOYD_STEINBERG;
@@ -23,14 +29,24 @@ static inline bool is_diffusion(uint32_t kind)
 
 static inline bool has_matrix(uint32_t kind)
 {
-    return kind >= BADGE_BAYER_2X2 && kind <= BADGE_LINE_H;
+    return kind >= BADGE_BAYER_2X2 && kind <= BADGE_LINE_H && !is_retired(kind);
+}
+
+/* The number of a call by its kind, where its shift may be wrong besides. A retired kind's comes directly after 1, and before
+ * all others. */
+static inline uint32_t kind_number(uint32_t kind, bool shift)
+{
+    if (kind_wrong(kind) || shift)
+        return BADGE_REFUSED_KIND_OR_SHIFT;
+    return is_retired(kind) ? BADGE_REFUSED_RETIRED_KIND : BADGE_ACCEPTED;
 }
 
 /* The number of a call that asks a kind for its threshold, where some length may be wrong besides. */
 static inline uint32_t matrix_number(uint32_t kind, bool length)
 {
-    if (kind_wrong(kind))
-        return BADGE_REFUSED_KIND_OR_SHIFT;
+    uint32_t number = kind_number(kind, false);
+    if (number != BADGE_ACCEPTED)
+        return number;
     if (length)
         return BADGE_REFUSED_LENGTH;
     return has_matrix(kind) ? BADGE_ACCEPTED : BADGE_REFUSED_NO_MATRIX;

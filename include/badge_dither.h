@@ -37,7 +37,10 @@ typedef size_t badge_length;
 typedef uint64_t badge_length;
 #endif
 
-/* The kinds of dithering. */
+/*
+ * The kinds of dithering. The number of a retired kind is never given to another, so that a number that somebody kept is
+ * refused and not drawn as something else.
+ */
 enum badge_kind {
     BADGE_OFF = 0, /* none: the nearest colour */
 
@@ -46,20 +49,22 @@ enum badge_kind {
     BADGE_BAYER_4X4 = 2,
     BADGE_BAYER_8X8 = 3,
     BADGE_CHECKER = 4,
-    BADGE_STIPPLE_V = 5, /* vertical stipple */
-    BADGE_STIPPLE_H = 6, /* horizontal stipple */
-    BADGE_LINE_V = 7,    /* vertical lines */
-    BADGE_LINE_H = 8,    /* horizontal lines */
+    BADGE_LINE_V = 7, /* vertical lines */
+    BADGE_LINE_H = 8, /* horizontal lines */
 
     /* the diffusing kinds, which pass error on to later pixels */
     BADGE_ATKINSON = 9,
-    BADGE_FLOYD_STEINBERG = 10
+    BADGE_FLOYD_STEINBERG = 10,
+
+    /* the retired kinds: every call that takes a kind refuses them with RETIRED_KIND */
+    BADGE_STIPPLE_V = 5, /* retired: vertical stipple */
+    BADGE_STIPPLE_H = 6  /* retired: horizontal stipple */
 };
 
 /* What a call that can refuse returns. */
 enum badge_refusal {
     BADGE_ACCEPTED = 0,
-    /* a kind that there is not, or a shift that is not 3, 4 or 5 */
+    /* a kind above 10, or a shift that is not 3, 4 or 5 */
     BADGE_REFUSED_KIND_OR_SHIFT = 1,
     /* a picture that is too large: a side above 4,096, or more than 1,048,576 pixels, or an origin and a side that add up to
        more than 4,294,967,295 */
@@ -76,12 +81,15 @@ enum badge_refusal {
     BADGE_REFUSED_TOO_MANY_CANDIDATES = 7,
     /* a tile that is over its limit */
     BADGE_REFUSED_TILE_OVER = 8,
-    /* a threshold or a pick asked of a kind that is not ordered */
+    /* a threshold or a pick asked of BADGE_OFF or of a diffusing kind */
     BADGE_REFUSED_NO_MATRIX = 9,
     /* a PAM file whose header is not one of those that are read, or a picture without pixels, to be read or to be written */
     BADGE_REFUSED_PAM_HEADER = 10,
     /* a PAM file that has fewer bytes after its header than the pixels take, or more */
-    BADGE_REFUSED_PAM_PIXELS = 11
+    BADGE_REFUSED_PAM_PIXELS = 11,
+    /* a retired kind: 5 or 6. It comes directly after KIND_OR_SHIFT: a retired kind with a wrong shift is refused with that,
+       and one with a wrong size or length with this */
+    BADGE_REFUSED_RETIRED_KIND = 15
 };
 
 /*
@@ -100,7 +108,7 @@ uint32_t badge_oklab_sqdist(float l1, float a1, float b1, float l2, float a2, fl
 /*
  * The threshold of an ordered kind at column x and row y, both reduced to the size of the kind's matrix; it lies between 0
  * and 1.
- * Accepts: writes the threshold. Refuses: KIND_OR_SHIFT (the kind), NO_MATRIX.
+ * Accepts: writes the threshold. Refuses: KIND_OR_SHIFT (the kind), RETIRED_KIND, NO_MATRIX.
  */
 uint32_t badge_ordered_threshold(uint32_t kind, uint32_t x, uint32_t y, float *threshold);
 
@@ -163,8 +171,8 @@ uint32_t badge_ordered_bracket(const uint8_t *reduced, badge_length reduced_len,
  * of the kind there, and else dark. ratio may be any float; a NaN exceeds nothing.
  * Accepts: writes the colour into chosen, four bytes. For the colours of badge_ordered_bracket, the entry chosen is the one at
  * dark_position where chosen equals dark, and else the one at light_position.
- * Refuses: KIND_OR_SHIFT (the kind), LENGTH (dark, light or chosen is not 4 long), NO_MATRIX (also where the two colours are
- * the same).
+ * Refuses: KIND_OR_SHIFT (the kind), RETIRED_KIND, LENGTH (dark, light or chosen is not 4 long), NO_MATRIX (also where the two
+ * colours are the same).
  */
 uint32_t badge_pick(const uint8_t *dark, badge_length dark_len, const uint8_t *light, badge_length light_len, float ratio,
                     uint32_t kind, uint32_t x, uint32_t y, uint8_t *chosen, badge_length chosen_len);
@@ -205,7 +213,7 @@ uint32_t badge_candidate_colors_in(uint32_t shift, uint32_t width, uint32_t heig
  * Accepts: writes into indices the position of the first entry that equals the colour chosen, and into out that colour,
  * normalised; a transparent pixel gets 0 and four zeros. cells then holds the error that was passed on to each pixel, in
  * red, green and blue, whatever was there before.
- * Refuses: KIND_OR_SHIFT, SIZE, LENGTH, ENTRIES (the palette).
+ * Refuses: KIND_OR_SHIFT, RETIRED_KIND, SIZE, LENGTH, ENTRIES (the palette).
  */
 uint32_t badge_quantize_pixels(uint32_t shift, uint32_t kind, uint32_t width, uint32_t height,
                                const uint8_t *reduction, badge_length reduction_len,
@@ -231,9 +239,9 @@ uint32_t badge_quantize_pixels(uint32_t shift, uint32_t kind, uint32_t width, ui
  * Accepts: writes the candidates to the front of places and oklab, as badge_candidate_colors_in does, the chosen colours,
  * normalised, into out (four zeros for a transparent pixel), and how many candidates there are behind count. cells then holds
  * the error that was passed on to each pixel, whatever was there before. What is behind tile is as it was.
- * Refuses: KIND_OR_SHIFT, SIZE, LENGTH (also for more than 65,536 places), TILES, TOO_MANY_CANDIDATES, TILE_OVER. After
- * TOO_MANY_CANDIDATES all of places is 0 and the rest as it was. After TILE_OVER places, oklab and what is behind count are
- * as on acceptance, out and cells are all 0, and the number of the first tile over its limit is behind tile.
+ * Refuses: KIND_OR_SHIFT, RETIRED_KIND, SIZE, LENGTH (also for more than 65,536 places), TILES, TOO_MANY_CANDIDATES,
+ * TILE_OVER. After TOO_MANY_CANDIDATES all of places is 0 and the rest as it was. After TILE_OVER places, oklab and what is
+ * behind count are as on acceptance, out and cells are all 0, and the number of the first tile over its limit is behind tile.
  */
 uint32_t badge_dither_to_mode(uint32_t shift, uint32_t kind, uint32_t width, uint32_t height,
                               uint32_t origin_x, uint32_t origin_y, uint32_t tile_width, uint32_t tile_height, uint32_t limit,

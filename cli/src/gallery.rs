@@ -1,12 +1,12 @@
-//! `gallery`: every kind on one labelled sheet. With a palette each is the
-//! palette's pass, without one the mode pass.
+//! `gallery`: every kind that can be chosen on one labelled sheet. With a
+//! palette each is the palette's pass, without one the mode pass.
 
 use std::ffi::OsStr;
 
 use badge_dither::Refusal;
 use badge_dither::pam::Image;
 
-use crate::names::KINDS;
+use crate::names::{KINDS, drawn_kinds};
 use crate::options::{self, Console, LIMIT, MODE, ORIGIN, PALETTE, ROUNDING, TILE, ZERO};
 use crate::passes::{self, Frame};
 use crate::progress::Progress;
@@ -78,15 +78,15 @@ fn run(words: &Words) -> Result<u8, Trouble> {
     let pass = pass(words, &console, name)?;
     let image = files::picture(name)?;
     let progress = Progress::new();
-    let mut panels = Vec::new();
-    for (number, kind) in KINDS.iter().enumerate() {
-        progress.now(format!("drawing {}, {} of {}", kind.name, number + 1, KINDS.len()));
-        panels.push(panel(&console, &pass, number as u32, &image)?);
+    let (mut panels, count) = (Vec::new(), drawn_kinds().count());
+    for (number, kind) in drawn_kinds() {
+        progress.now(format!("drawing {}, {} of {count}", kind.name, panels.len() + 1));
+        panels.push(panel(&console, &pass, number, &image)?);
     }
     progress.now(format!("writing {}", shown(out)));
     let sheet = sheets::sheet(image, panels);
     files::ready(out, files::encoded(out, &sheet)?)?.put()?;
     drop(progress);
-    files::tell(&[Some(out)], &format!("{}: {}x{}, {} kinds", shown(out), sheet.width, sheet.height, KINDS.len()))?;
+    files::tell(&[Some(out)], &format!("{}: {}x{}, {count} kinds", shown(out), sheet.width, sheet.height))?;
     Ok(FINE)
 }

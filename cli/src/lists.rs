@@ -1,4 +1,5 @@
-//! `modes` and `kinds`: the names that the options take, with their numbers.
+//! `modes` and `kinds`: the names that can be chosen, with their numbers, and
+//! the kinds that are retired.
 
 use crate::trouble::Trouble;
 use crate::words::{Command, Words};
@@ -25,10 +26,17 @@ fn modes(_: &Words) -> Result<u8, Trouble> {
 }
 
 fn kinds(_: &Words) -> Result<u8, Trouble> {
-    let lines = names::KINDS.iter().enumerate().map(|(number, kind)| match kind.word == kind.name {
+    let lines = names::drawn_kinds().map(|(number, kind)| match kind.word == kind.name {
         true => format!("{number:<7} {}\n", kind.name),
         false => format!("{number:<7} {:<16} {}\n", kind.name, kind.word),
     });
-    files::print(format!("number  kind             or\n{}", lines.collect::<String>()).as_bytes())?;
+    let lines: String = lines.collect();
+    files::print(format!("number  kind             or\n{lines}retired, refused with 15: {}\n", retired()).as_bytes())?;
     Ok(FINE)
+}
+
+/// The retired kinds on one line: somebody may have kept a name or a number.
+fn retired() -> String {
+    let kinds = names::retired_kinds().map(|(number, kind)| format!("{number} {}", kind.name));
+    kinds.collect::<Vec<_>>().join(", ")
 }

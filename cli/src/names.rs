@@ -1,4 +1,5 @@
-//! The original's modes and kinds, under its names.
+//! The original's modes and kinds, under its names, and which of the kinds are
+//! retired.
 
 pub struct Mode {
     pub name: &'static str,
@@ -35,25 +36,49 @@ pub struct Kind {
     pub word: &'static str,
     /// On a labelled sheet.
     pub caption: &'static str,
+    /// Whether it is drawn no more. Its number is given to no other kind, and
+    /// its name stands for that number still: an order that somebody kept is
+    /// understood, and refused by the library.
+    pub retired: bool,
 }
 
 const fn kind(name: &'static str, word: &'static str, caption: &'static str) -> Kind {
-    Kind { name, word, caption }
+    Kind { name, word, caption, retired: false }
 }
 
+const fn retired(name: &'static str, word: &'static str, caption: &'static str) -> Kind {
+    Kind { name, word, caption, retired: true }
+}
+
+/// All kinds that ever had a number.
 pub const KINDS: [Kind; 11] = [
     kind("off", "off", "Off"),
     kind("bayer-2x2", "bayer2", "Bayer 2x2"),
     kind("bayer-4x4", "bayer4", "Bayer 4x4"),
     kind("bayer-8x8", "bayer8", "Bayer 8x8"),
     kind("checker", "checker", "Checker"),
-    kind("stipple-v", "stipple_v", "Stipple V"),
-    kind("stipple-h", "stipple_h", "Stipple H"),
+    retired("stipple-v", "stipple_v", "Stipple V"),
+    retired("stipple-h", "stipple_h", "Stipple H"),
     kind("line-v", "line_v", "Line V"),
     kind("line-h", "line_h", "Line H"),
     kind("atkinson", "atkinson", "Atkinson"),
     kind("floyd-steinberg", "fs", "Floyd-Steinberg"),
 ];
+
+/// All kinds, with their numbers.
+fn numbered() -> impl Iterator<Item = (u32, &'static Kind)> {
+    (0..).zip(&KINDS)
+}
+
+/// The kinds that can be chosen, with their numbers.
+pub fn drawn_kinds() -> impl Iterator<Item = (u32, &'static Kind)> {
+    numbered().filter(|(_, kind)| !kind.retired)
+}
+
+/// The retired kinds, with their numbers.
+pub fn retired_kinds() -> impl Iterator<Item = (u32, &'static Kind)> {
+    numbered().filter(|(_, kind)| kind.retired)
+}
 
 /// Whether a word is a name: case and the signs between its parts play no
 /// part, so that `GbaAffine`, `gba_affine` and `gba-affine` are one.

@@ -1,6 +1,6 @@
 //! The options that several subcommands take, and their values.
 
-use crate::names::{KINDS, LEFT_OUT, MODES, Mode, same};
+use crate::names::{KINDS, LEFT_OUT, MODES, Mode, drawn_kinds, same};
 use crate::tables::{ModeTables, Rounding};
 use crate::trouble::{Trouble, shown};
 use crate::words::{Choice, Words, nearest};
@@ -66,8 +66,8 @@ pub fn console(words: &Words) -> Result<Console, Trouble> {
     Ok(Console { mode, tables: ModeTables::new(mode.shift, rounding) })
 }
 
-/// A kind by name or by number. A number that no kind has is left to the
-/// library to refuse.
+/// A kind by name or by number. A number that no kind has and that of a
+/// retired kind are left to the library to refuse.
 pub fn kind(words: &Words) -> Result<u32, Trouble> {
     let word = text(words, &KIND, "floyd-steinberg")?;
     if let Some(number) = number(word) {
@@ -76,7 +76,7 @@ pub fn kind(words: &Words) -> Result<u32, Trouble> {
     let place = KINDS.iter().position(|kind| same(word, kind.name) || same(word, kind.word));
     match place {
         Some(place) => Ok(place as u32),
-        None => Err(unknown("kind", word, KINDS.iter().flat_map(|kind| [kind.name, kind.word]))),
+        None => Err(unknown("kind", word, drawn_kinds().flat_map(|(_, kind)| [kind.name, kind.word]))),
     }
 }
 

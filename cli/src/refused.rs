@@ -5,6 +5,7 @@ use std::ffi::OsStr;
 use badge_dither::pam::Image;
 use badge_dither::{Picture, Refusal};
 
+use crate::names::{drawn_kinds, kind_name};
 use crate::passes::Frame;
 use crate::trouble::{Trouble, shown};
 
@@ -78,9 +79,16 @@ fn passing(refusal: Refusal, kind: u32, picture: Picture) -> String {
     let (width, height) = (picture.width, picture.height);
     match refusal {
         Refusal::KindOrShift => format!("kind {kind} is none of 0 to 10"),
+        Refusal::RetiredKind => retired(kind),
         Refusal::Size => format!("{width}x{height} is more than 4096 on a side or 1048576 pixels"),
         other => format!("a picture of {width}x{height} by kind {kind}: {}", plain(other)),
     }
+}
+
+/// A retired kind, with those that are left to choose from.
+fn retired(kind: u32) -> String {
+    let others: Vec<&str> = drawn_kinds().map(|(_, other)| other.name).collect();
+    format!("kind {kind} ({}) is retired, choose another: {}", kind_name(kind), others.join(", "))
 }
 
 /// The mode pass.

@@ -13,8 +13,9 @@ pub struct Panel {
 
 const INK: Color = [40, 42, 54];
 const MARK: Color = [220, 30, 50];
-/// Panels side by side, the space between them, and a caption's line.
-const ACROSS: usize = 4;
+/// Panels side by side: the source and nine kinds fill two rows.
+const ACROSS: usize = 5;
+/// The space between panels, and a caption's line.
 const GAP: usize = 10;
 const LINE: usize = 22;
 /// A small picture is enlarged up to this many pixels along its longer side,

@@ -4,7 +4,7 @@ mod common;
 
 use badge_dither::kind::{BAYER_8X8, FLOYD_STEINBERG};
 use badge_dither::{ReducedColor, Settings};
-use common::expected::{Console, modes};
+use common::expected::{Console, DRAWN, modes};
 use common::{Folder, noise, painted, rgb, rgba, table};
 
 /// What is asked for where no option but the limit is given.
@@ -32,7 +32,7 @@ fn every_mode_and_kind_is_the_librarys() {
     let folder = Folder::with(&[("in.pam", noise(1, 20, 17, true))]);
     for ((mode, shift), rounding) in modes().zip(["truncate", "nearest"].into_iter().cycle()) {
         let console = Console::new(shift, rounding);
-        for kind in 0..=10 {
+        for kind in DRAWN {
             let words = format!("draw --mode {mode} --kind {kind} --rounding {rounding} --limit 256 in.pam out.pam");
             folder.badge(&words).bytes();
             let expected = console.drawn(settings(shift, kind), &folder.image("in.pam"));

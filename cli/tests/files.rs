@@ -39,7 +39,7 @@ fn a_dash_is_standard_input_and_output() {
     assert_eq!(folder.badge("draw in.pam -").bytes(), drawn);
     assert_eq!(folder.fed("draw - out.pam", &input).said(), "out.pam: 4x4, snes, floyd-steinberg\n");
     assert_eq!(folder.read("out.pam"), drawn);
-    assert!(folder.fed("gallery - -", &input).bytes().starts_with(b"P7\nWIDTH 1074\n"));
+    assert!(folder.fed("gallery - -", &input).bytes().starts_with(b"P7\nWIDTH 1340\n"));
     // A file of that name is another file.
     let ran = folder.fed("quantize --palette - --indices ./- in.pam -", &rgb(1, &[[0; 3]]));
     assert_eq!((ran.bytes().len(), folder.read("-")), (drawn.len(), vec![0; 16]));

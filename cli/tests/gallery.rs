@@ -3,9 +3,10 @@
 mod common;
 
 use badge_dither::pam::Image;
+use common::expected::DRAWN;
 use common::{Folder, noise, painted, table};
 
-/// Pixels of a 16x8 picture are enlarged to 16x16. Four panels stand side by
+/// Pixels of a 16x8 picture are enlarged to 16x16. Five panels stand side by
 /// side, 10 apart; below each is a caption of one line or two.
 const TIMES: usize = 16;
 const PANEL: [usize; 2] = [16 * TIMES, 8 * TIMES];
@@ -18,7 +19,7 @@ fn pixel(image: &Image, [x, y]: [usize; 2]) -> [u8; 4] {
 
 /// Where a panel's upper left corner is; the first one has the source.
 fn corner(place: usize, caption: usize) -> [usize; 2] {
-    [10 + place % 4 * (PANEL[0] + 10), 10 + place / 4 * (PANEL[1] + caption)]
+    [10 + place % 5 * (PANEL[0] + 10), 10 + place / 5 * (PANEL[1] + caption)]
 }
 
 /// Whether a panel shows a picture, by the middles of its large pixels. White
@@ -48,18 +49,18 @@ fn every_kind_on_a_panel_of_its_own() {
         --mode gg --rounding nearest --limit 256 --origin 1,2 --zero 102030 => draw";
     for (options, command) in table(passes) {
         let ran = folder.badge(&format!("gallery {options} in.pam sheet.pam"));
-        assert_eq!(ran.said(), "sheet.pam: 1074x478, 11 kinds\n");
+        assert_eq!(ran.said(), "sheet.pam: 1340x322, 9 kinds\n");
         let sheet = folder.image("sheet.pam");
-        assert_eq!((sheet.width, sheet.height), (1074, 478));
+        assert_eq!((sheet.width, sheet.height), (1340, 322));
         assert!(shows(&sheet, 0, ONE_LINE, &folder.image("in.pam")));
-        for kind in 0..=10 {
+        for (place, kind) in (1..).zip(DRAWN) {
             folder.badge(&format!("{command} {options} --kind {kind} in.pam one.pam")).bytes();
-            assert!(shows(&sheet, kind + 1, ONE_LINE, &folder.image("one.pam")), "{command} by kind {kind}");
+            assert!(shows(&sheet, place, ONE_LINE, &folder.image("one.pam")), "{command} by kind {kind}");
         }
-        let mut captions: Vec<_> = (0..12).map(|place| text(&sheet, place, ONE_LINE, 0)).collect();
+        let mut captions: Vec<_> = (0..10).map(|place| text(&sheet, place, ONE_LINE, 0)).collect();
         captions.sort();
         captions.dedup();
-        assert_eq!(captions.len(), 12, "each panel has a caption of its own");
+        assert_eq!(captions.len(), 10, "each panel has a caption of its own, and two rows are full");
     }
 }
 
@@ -81,11 +82,11 @@ fn a_tile_over_its_limit_is_shown_and_marked() {
 
 #[test]
 fn a_large_sheet_is_png_only() {
-    let folder = Folder::with(&[("in.pam", painted(300, 300, |_, _| [0, 0, 0, 255]))]);
-    let line = "refused with 2: 1250x994 is more than 4096 on a side or 1048576 pixels: \
+    let folder = Folder::with(&[("in.pam", painted(320, 320, |_, _| [0, 0, 0, 255]))]);
+    let line = "refused with 2: 1660x706 is more than 4096 on a side or 1048576 pixels: \
                 out.pam would be PAM, and .png has no such bound";
     assert_eq!(folder.badge("gallery in.pam out.pam").one_line(3), line);
-    assert_eq!(folder.badge("gallery in.pam out.png").said(), "out.png: 1250x994, 11 kinds\n");
-    assert_eq!(folder.read("out.png")[16..24], [0, 0, 4, 226, 0, 0, 3, 226]);
+    assert_eq!(folder.badge("gallery in.pam out.png").said(), "out.png: 1660x706, 9 kinds\n");
+    assert_eq!(folder.read("out.png")[16..24], [0, 0, 6, 124, 0, 0, 2, 194]);
     assert_eq!(folder.names(), "in.pam out.png");
 }

@@ -2,6 +2,7 @@
 
 mod common;
 
+use common::expected::DRAWN;
 use common::{Folder, painted, rgba};
 
 /// 1024x1024 pixels, whose 65,536 colours are 1,024 after reduction.
@@ -15,7 +16,7 @@ fn folder() -> Folder {
 /// pictures are the same.
 fn every_kind(command: &str) {
     let folder = folder();
-    for kind in 0..=10 {
+    for kind in DRAWN {
         for out in ["one.pam", "two.pam"] {
             let said = folder.badge(&format!("{command} --kind {kind} in.pam {out}"));
             assert!(said.said().starts_with(&format!("{out}: 1024x1024, snes, ")), "kind {kind}");

@@ -16,8 +16,8 @@ fn modes_and_kinds_with_their_numbers() {
     let lines = modes().map(|(mode, shift)| format!("{mode} {shift} {}\n", 256 >> shift));
     assert_eq!(said("modes"), format!("mode shift levels a channel\n{}", lines.collect::<String>()));
     let lines = "number kind or\n0 off\n1 bayer-2x2 bayer2\n2 bayer-4x4 bayer4\n3 bayer-8x8 bayer8\n4 checker\n\
-                 5 stipple-v stipple_v\n6 stipple-h stipple_h\n7 line-v line_v\n8 line-h line_h\n9 atkinson\n\
-                 10 floyd-steinberg fs\n";
+                 7 line-v line_v\n8 line-h line_h\n9 atkinson\n10 floyd-steinberg fs\n\
+                 retired, refused with 15: 5 stipple-v, 6 stipple-h\n";
     assert_eq!(said("kinds"), lines);
 }
 

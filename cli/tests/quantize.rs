@@ -2,7 +2,7 @@
 
 mod common;
 
-use common::expected::{Console, modes};
+use common::expected::{Console, DRAWN, modes};
 use common::{Folder, noise, painted, rgb, rgba};
 
 const BLACK: [u8; 4] = [0, 0, 0, 255];
@@ -42,7 +42,7 @@ fn every_mode_and_kind_is_the_librarys() {
     let (image, palette) = (folder.image("in.pam"), folder.image("palette.pam"));
     for ((mode, shift), rounding) in modes().zip(["nearest", "truncate"].into_iter().cycle()) {
         let console = Console::new(shift, rounding);
-        for kind in 0..=10 {
+        for kind in DRAWN {
             let options = format!("--mode {mode} --kind {kind} --rounding {rounding} --indices i");
             folder.badge(&format!("quantize {options} --palette palette.pam in.pam out.pam")).bytes();
             let written = (folder.image("out.pam").pixels, folder.read("i"));
@@ -69,7 +69,7 @@ fn an_index_is_the_first_of_equal_entries() {
         [[0; 3], [255; 3], [7; 3], [248; 3], [128, 0, 0], [135, 7, 7], [0; 3], [255; 3], [128, 0, 0], [0, 0, 200]];
     let colors = entries.map(|entry| entry.map(|v: u8| v & 248 | v >> 5));
     let folder = Folder::with(&[("in.pam", noise(6, 20, 17, false)), ("twins.pam", rgb(5, &entries))]);
-    for kind in 0..=10 {
+    for kind in DRAWN {
         folder.badge(&format!("quantize --kind {kind} --palette twins.pam --indices i in.pam out.pam")).bytes();
         let (indices, drawn) = (folder.read("i"), folder.image("out.pam").pixels);
         let first = |pixel: &[u8]| colors.iter().position(|color| color[..] == pixel[..3]).expect("an entry") as u8;

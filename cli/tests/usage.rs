@@ -44,7 +44,10 @@ const LINES: &str = "
     draw --mode sms in.pam out => the mode sms is not drawn: ./badge modes lists those that are
     draw --kind floyd in.pam out => unknown kind floyd: did you mean floyd-steinberg? ./badge kinds lists them
     draw --kind Atkinsen in.pam out => unknown kind Atkinsen: did you mean atkinson? ./badge kinds lists them
-    quantize --palette in.pam --kind -1 in.pam out => unknown kind -1: did you mean fs? ./badge kinds lists them";
+    quantize --palette in.pam --kind -1 in.pam out => unknown kind -1: did you mean fs? ./badge kinds lists them
+    draw --kind stipple in.pam out => unknown kind stipple: did you mean line-v? ./badge kinds lists them
+    draw --kind stipple-w in.pam out => unknown kind stipple-w: did you mean line-v? ./badge kinds lists them
+    quantize --palette in.pam --kind stiple_h in.pam out => unknown kind stiple_h: did you mean line_h? ./badge kinds lists them";
 
 #[test]
 fn one_line_says_what_is_meant() {

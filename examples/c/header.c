@@ -10,12 +10,13 @@
 static_assert(BADGE_OFF == 0 && BADGE_BAYER_2X2 == 1 && BADGE_BAYER_4X4 == 2 && BADGE_BAYER_8X8 == 3 && BADGE_CHECKER == 4 &&
                   BADGE_STIPPLE_V == 5 && BADGE_STIPPLE_H == 6 && BADGE_LINE_V == 7 && BADGE_LINE_H == 8 &&
                   BADGE_ATKINSON == 9 && BADGE_FLOYD_STEINBERG == 10,
-              "the kinds in the original's order");
+              "the kinds in the original's order, the retired ones too");
 
 static_assert(BADGE_ACCEPTED == 0 && BADGE_REFUSED_KIND_OR_SHIFT == 1 && BADGE_REFUSED_SIZE == 2 &&
                   BADGE_REFUSED_LENGTH == 3 && BADGE_REFUSED_ENTRIES == 4 && BADGE_REFUSED_TILES == 5 &&
                   BADGE_REFUSED_COMPONENT == 6 && BADGE_REFUSED_TOO_MANY_CANDIDATES == 7 && BADGE_REFUSED_TILE_OVER == 8 &&
-                  BADGE_REFUSED_NO_MATRIX == 9 && BADGE_REFUSED_PAM_HEADER == 10 && BADGE_REFUSED_PAM_PIXELS == 11,
+                  BADGE_REFUSED_NO_MATRIX == 9 && BADGE_REFUSED_PAM_HEADER == 10 && BADGE_REFUSED_PAM_PIXELS == 11 &&
+                  BADGE_REFUSED_RETIRED_KIND == 15,
               "the numbers of the scope document's table, and of the requests after it");
 
 static_assert(sizeof(badge_length) == 8, "a length is 64 bits, where pointers are smaller too");

@@ -196,6 +196,29 @@ impl Case {
         }
     }
 
+    /// The kind of the calls that take one.
+    pub fn kind(&self) -> Option<u32> {
+        match self {
+            Case::OrderedThreshold { kind, .. } => Some(*kind),
+            Case::Pick(c) => Some(c.kind),
+            Case::QuantizePixels(c) => Some(c.kind),
+            Case::DitherToMode(c) => Some(c.kind),
+            _ => None,
+        }
+    }
+
+    /// The case with another kind, where its call takes one.
+    pub fn with_kind(mut self, other: u32) -> Case {
+        match &mut self {
+            Case::OrderedThreshold { kind, .. } => *kind = other,
+            Case::Pick(c) => c.kind = other,
+            Case::QuantizePixels(c) => c.kind = other,
+            Case::DitherToMode(c) => c.kind = other,
+            _ => {}
+        }
+        self
+    }
+
     /// The lent tables of the calls that have them.
     pub fn tables(&self) -> Option<&LentTables> {
         match self {

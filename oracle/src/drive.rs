@@ -11,8 +11,8 @@ use crate::text::{describe, differences};
 pub struct Report {
     /// Cases compared, for each call in the order of `Call::ALL`.
     pub compared: [u64; 12],
-    /// How often each number was the expected one.
-    pub numbers: [u64; 10],
+    /// How often each number was the expected one, of which 15 is the largest.
+    pub numbers: [u64; 16],
     pub found: Vec<String>,
     /// The run ends once this many differences are found.
     pub enough: usize,
@@ -20,7 +20,7 @@ pub struct Report {
 
 impl Report {
     pub fn new(enough: usize) -> Report {
-        Report { compared: [0; 12], numbers: [0; 10], found: Vec::new(), enough }
+        Report { compared: [0; 12], numbers: [0; 16], found: Vec::new(), enough }
     }
 
     pub fn full(&self) -> bool {
@@ -98,7 +98,8 @@ pub fn all_colors(report: &mut Report, port: &impl Port) {
     }
 }
 
-/// Every kind, and kinds above 10, at 16x16 places, near 0 and near the end.
+/// Every kind, the retired ones among them, and kinds above 10, at 16x16 places,
+/// near 0 and near the end.
 pub fn all_thresholds(report: &mut Report, port: &impl Port) {
     for kind in (0..16).chain([255, 256, 257, 266, u32::MAX]) {
         for place in 0..256u32 {

@@ -7,13 +7,20 @@ use std::collections::BTreeMap;
 use crate::case::{Call, Case, ToMode};
 use crate::generate::{self, Style};
 use crate::mode::{Mode, color::ModeColor};
-use crate::model;
+use crate::model::{self, DRAWN, RETIRED, is_retired};
 use crate::original::{self, How, Rgba, kind_names, modes_of, own_tables};
 use crate::reference::{expected, settings_of};
 use crate::rng::Rng;
 use crate::text::hex;
 
 const STYLE: Style = Style { finite: true, side: 48, large: false, twins: 0 };
+
+/// What the command says of a kind that is retired.
+pub const SAID_OF_RETIRED: &str = "refused with 15:";
+
+/// How many jobs have each with each: passes, modes, the nine kinds that are drawn
+/// and one turn of a retired one, and roundings.
+pub const EACH_WITH_EACH: u64 = 2 * 12 * 10 * 2;
 
 /// Files by name.
 pub type Files = BTreeMap<String, Vec<u8>>;
@@ -55,14 +62,15 @@ struct Maker<'a> {
 }
 
 /// Job `number`, with its files in a folder. Passes, modes, kinds and roundings
-/// take turns, and 528 jobs have each with each; the rest is chance.
+/// take turns, and the rest is chance. After ten turns, which have every kind, a mode
+/// is passed over: so each kind meets each mode.
 pub fn job(seed: u64, number: u64, folder: &str) -> Job {
     let modes: Vec<Mode> = (3..=5).flat_map(modes_of).copied().collect();
-    let turn = number / 2;
-    let (mode, nearest) = (modes[turn as usize % modes.len()], turn / 132 % 2 == 1);
+    let turn = number as usize / 2;
+    let (mode, nearest) = (modes[(turn + turn / 10) % modes.len()], turn / 120 % 2 == 1);
+    let (mut rng, how) = (Rng::new(seed ^ number << 32), How { mode, lent: None, nearest });
     let mut case = sound(seed, number, mode.channel_shift().into(), nearest);
-    case.kind = (turn % 11) as u32;
-    let (rng, how) = (Rng::new(seed ^ number << 32), How { mode, lent: None, nearest });
+    case.kind = DRAWN.get(turn % 10).copied().unwrap_or_else(|| rng.pick(&RETIRED));
     let mut maker = Maker { rng, how, case, folder, words: Vec::new(), before: Files::new() };
     maker.picture();
     if number.is_multiple_of(2) { maker.draw() } else { maker.quantize() }
@@ -90,20 +98,27 @@ impl Maker<'_> {
         self.before.insert(name.into(), pam(size, pixels, alpha));
     }
 
-    /// The files in and out. A file that stands in the output's place is to be
-    /// replaced, and by a refusal left.
+    /// The files in and out.
     fn picture(&mut self) {
         let mut pixels = std::mem::take(&mut self.case.pixels);
         self.put("in.pam", [self.case.width, self.case.height], &mut pixels);
         self.case.pixels = pixels;
+        self.occupy("out.pam");
+    }
+
+    /// Every other time a file stands in an output's place. It is to be replaced, and
+    /// by a refusal left.
+    fn occupy(&mut self, name: &str) {
         if self.rng.one_in(2) {
-            self.before.insert("out.pam".into(), b"before".into());
+            self.before.insert(name.into(), b"before".into());
         }
     }
 
-    /// The job, with the words that both passes have.
-    fn job(mut self, pass: &str, written: Result<Files, String>) -> Job {
+    /// The job, with the words that both passes have. The original draws by a retired
+    /// kind too, where the command must refuse and write nothing.
+    fn job(mut self, pass: &str, drawn: Result<Files, String>) -> Job {
         let kind = self.case.kind;
+        let written = if is_retired(kind) { Err(SAID_OF_RETIRED.into()) } else { drawn };
         let numbered = self.rng.one_in(4);
         let kind = if numbered { kind.to_string() } else { kind_names()[kind as usize].clone() };
         self.option("--mode", &format!("{:?}", self.how.mode), "Snes");
@@ -197,6 +212,7 @@ impl Maker<'_> {
         let mut written = self.out(&drawn.out);
         if !self.rng.one_in(4) {
             self.words.extend(["--indices".into(), self.path("indices")]);
+            self.occupy("indices");
             written.insert("indices".into(), drawn.indices);
         }
         self.job("quantize", Ok(written))

@@ -32,8 +32,8 @@ impl Port for Mock {
     }
 
     fn ordered_threshold(&self, kind: u32, x: u32, y: u32, threshold: &mut f32) -> u32 {
-        let found = model::threshold(kind, x, y);
-        let number = self.say(&[(kind > 10, 1), (found.is_none(), 9)]);
+        let found = model::threshold(self.drawn_as(kind), x, y);
+        let number = self.say(&[(self.unknown(kind), 1), (self.retired(kind), 15), (found.is_none(), 9)]);
         if self.writes(number) {
             *threshold = found.unwrap();
         }
@@ -81,7 +81,7 @@ impl Port for Mock {
                 [*rooms.dark_position, *rooms.light_position] = self.positions(&list, color, width, &bracket);
             }
         } else if number != 0 {
-            self.leave(rooms.dark);
+            self.leave(number, rooms.dark);
             if self.has_slip(Slip::RefusalWritesPositions) {
                 [*rooms.dark_position, *rooms.light_position] = [0, 0];
             }
@@ -91,14 +91,19 @@ impl Port for Mock {
 
     fn pick(&self, case: &PickCase, dark: &[u8], light: &[u8], chosen: &mut [u8]) -> u32 {
         let fit = dark.len() == 4 && light.len() == 4 && chosen.len() == 4;
-        let threshold = model::threshold(case.kind, case.x, case.y);
+        let threshold = model::threshold(self.drawn_as(case.kind), case.x, case.y);
         let equal = self.has_slip(Slip::PickAcceptsEqualColors) && dark == light;
-        let number = self.say(&[(case.kind > 10, 1), (!fit, 3), (threshold.is_none() && !equal, 9)]);
+        let number = self.say(&[
+            (self.unknown(case.kind), 1),
+            (self.retired(case.kind), 15),
+            (!fit, 3),
+            (threshold.is_none() && !equal, 9),
+        ]);
         if self.writes(number) {
             let lighter = dark != light && case.ratio > threshold.unwrap_or(0.0);
             chosen.copy_from_slice(if lighter { light } else { dark });
         } else if number != 0 {
-            self.leave(chosen);
+            self.leave(number, chosen);
         }
         number
     }
@@ -123,7 +128,7 @@ impl Port for Mock {
         ]);
         if !self.writes(number) {
             if number != 0 {
-                self.leave(places);
+                self.leave(number, places);
             }
             return number;
         }
@@ -145,13 +150,13 @@ impl Port for Mock {
         let number = self.quantize_number(case, read, [indices.len(), out.len(), cells.len()]);
         if !self.writes(number) {
             if number != 0 {
-                self.leave(out);
+                self.leave(number, out);
             }
             return number;
         }
         let entries = 0..read.palette.len() / 4;
         let drawing = Drawing {
-            kind: case.kind,
+            kind: self.drawn_as(case.kind),
             size: [case.width as usize, case.height as usize],
             origin: [0, 0],
             zero: None,
@@ -172,7 +177,7 @@ impl Port for Mock {
         let number = self.to_mode_number(case, read, &rooms);
         if !self.writes(number) {
             if number != 0 {
-                self.leave(rooms.out);
+                self.leave(number, rooms.out);
             }
             return number;
         }
@@ -181,7 +186,7 @@ impl Port for Mock {
         };
         let found = candidates.len();
         let drawing = Drawing {
-            kind: case.kind,
+            kind: self.drawn_as(case.kind),
             size: [case.width as usize, case.height as usize],
             origin: case.origin.map(|o| if self.has_slip(Slip::OriginOverflowAccepted) { o & 0xffff } else { o }),
             zero: self.flag(case.has_zero).then_some(case.zero),

@@ -12,6 +12,18 @@ pub const OFF: u32 = 0;
 pub const ATKINSON: u32 = 9;
 pub const FLOYD_STEINBERG: u32 = 10;
 
+/// The stipples, which document 02's ninth request retires: every call that takes a
+/// kind refuses them, and their numbers go to no other. The original still draws
+/// them, and so does this model.
+pub const RETIRED: [u32; 2] = [5, 6];
+
+/// The kinds that a port draws: all the others.
+pub const DRAWN: [u32; 9] = [OFF, 1, 2, 3, 4, 7, 8, ATKINSON, FLOYD_STEINBERG];
+
+pub fn is_retired(kind: u32) -> bool {
+    RETIRED.contains(&kind)
+}
+
 pub fn is_diffusion(kind: u32) -> bool {
     kind == ATKINSON || kind == FLOYD_STEINBERG
 }

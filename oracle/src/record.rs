@@ -9,6 +9,7 @@ use crate::color::{ReducedColor, eq_rgb};
 use crate::examples;
 use crate::generate::{Style, case_with};
 use crate::hooks::Tables;
+use crate::model::{DRAWN, RETIRED};
 use crate::original::{Rgba, own_tables, to_oklab};
 use crate::reference::expected;
 use crate::rng::Rng;
@@ -22,46 +23,72 @@ const TABLE_SETS: u32 = 4;
 struct Quota {
     number: u32,
     kind: Option<u32>,
+    /// Where 15 is said: the number behind it.
+    behind: Option<u32>,
     count: usize,
+}
+
+/// The number that would be said if a case's retired kind were drawn. The kind in
+/// its place has a matrix and no cells, as the retired ones have.
+pub fn behind(case: &Case) -> u32 {
+    let bayer_2x2 = 1;
+    expected(&case.clone().with_kind(bayer_2x2)).number()
+}
+
+/// The quotas of both retired kinds: this turn's share of those with each of these
+/// numbers behind 15, and in the first two turns one with a bad shift, which is 1.
+fn retired_pictures(numbers: &[u32], turn: u32) -> Vec<Quota> {
+    let pairs = RETIRED.into_iter().flat_map(|kind| numbers.iter().map(move |&number| (kind, number)));
+    let of_turn = pairs.zip(0..).filter(|(_, place)| place % TABLE_SETS == turn);
+    let hidden =
+        of_turn.map(|((kind, number), _)| Quota { number: 15, kind: Some(kind), behind: Some(number), count: 1 });
+    let shift = RETIRED.get(turn as usize).map(|&kind| Quota { number: 1, kind: Some(kind), behind: None, count: 1 });
+    hidden.chain(shift).collect()
 }
 
 /// The quotas of a call; of one on pictures for the tables of this turn.
 fn quotas(call: Call, turn: u32) -> Vec<Quota> {
     let plain = |counts: &[(u32, usize)]| -> Vec<Quota> {
-        counts.iter().map(|&(number, count)| Quota { number, kind: None, count }).collect()
+        counts.iter().map(|&(number, count)| Quota { number, kind: None, behind: None, count }).collect()
     };
-    let kinds = |number: u32, wanted: &dyn Fn(u32) -> bool| -> Vec<Quota> {
-        (0..11).filter(|&kind| wanted(kind)).map(|kind| Quota { number, kind: Some(kind), count: 1 }).collect()
+    let of_kind = |number, kind, count| Quota { number, kind: Some(kind), behind: None, count };
+    let drawn = |number: u32, wanted: &dyn Fn(u32) -> bool| -> Vec<Quota> {
+        DRAWN.into_iter().filter(|&kind| wanted(kind)).map(|kind| of_kind(number, kind, 1)).collect()
     };
+    let retired = RETIRED.map(|kind| of_kind(15, kind, 4)).to_vec();
     match call {
         Call::ToOklab => plain(&[(0, 96)]),
         Call::OklabSqdist => plain(&[(0, 60), (6, 30)]),
-        Call::OrderedThreshold => plain(&[(0, 64), (1, 6), (9, 9)]),
+        Call::OrderedThreshold => [plain(&[(0, 64), (1, 6), (9, 9)]), retired].concat(),
         Call::BracketWidth => plain(&[(0, 48), (1, 12)]),
         Call::Lerp => plain(&[(0, 96)]),
         Call::Nearest => plain(&[(0, 40), (3, 8), (4, 2), (6, 8)]),
         Call::NearestTwo => plain(&[(0, 40), (3, 6), (4, 2), (6, 6)]),
         Call::OrderedBracket => plain(&[(0, 40), (3, 6), (4, 2), (6, 6)]),
-        Call::Pick => plain(&[(0, 48), (1, 6), (9, 9)]),
-        // These are taken for each of the tables, every kind among them; 8 has
-        // every kind over all tables.
+        Call::Pick => [plain(&[(0, 48), (1, 6), (9, 9)]), retired].concat(),
+        // These are taken for each of the tables, every kind that is drawn among them;
+        // 8 has each of these kinds over all tables, and so has 15 the retired ones.
         Call::CandidateColorsIn => plain(&[(0, 5), (1, 1), (2, 1), (3, 4), (7, 2)]),
-        Call::QuantizePixels => [plain(&[(1, 1), (2, 1), (3, 6), (4, 1)]), kinds(0, &|_| true)].concat(),
+        Call::QuantizePixels => {
+            [retired_pictures(&[0, 2, 3, 4], turn), plain(&[(1, 1), (2, 1), (3, 6), (4, 1)]), drawn(0, &|_| true)]
+                .concat()
+        }
         Call::DitherToMode => [
+            retired_pictures(&[0, 2, 3, 5, 7, 8], turn),
             plain(&[(1, 1), (2, 2), (3, 5), (5, 2), (7, 2)]),
-            kinds(0, &|_| true),
-            kinds(8, &|kind| kind % TABLE_SETS == turn),
+            drawn(0, &|_| true),
+            drawn(8, &|kind| kind % TABLE_SETS == turn),
         ]
         .concat(),
     }
 }
 
-/// The kind of a picture's case.
-fn kind_of(case: &Case) -> u32 {
-    match case {
-        Case::QuantizePixels(c) => c.kind,
-        Case::DitherToMode(c) => c.kind,
-        _ => 0,
+impl Quota {
+    /// Whether a case that has this number counts.
+    fn takes(&self, case: &Case, number: u32) -> bool {
+        self.number == number
+            && self.kind.is_none_or(|kind| case.kind() == Some(kind))
+            && self.behind.is_none_or(|hidden| behind(case) == hidden)
     }
 }
 
@@ -72,8 +99,7 @@ fn sample(call: Call, style: Style, seed: u64, mut wanted: Vec<Quota>, fixed: Op
         assert!(turn < 100_000, "no case of {} for {wanted:?}", call.name());
         let case = case_with(call, seed, turn, style, fixed);
         let number = expected(&case).number();
-        let fits = |w: &&mut Quota| w.number == number && w.kind.is_none_or(|k| k == kind_of(&case));
-        if let Some(quota) = wanted.iter_mut().find(fits) {
+        if let Some(quota) = wanted.iter_mut().find(|quota| quota.takes(&case, number)) {
             quota.count -= 1;
             taken.push(case);
         }
@@ -98,7 +124,7 @@ fn has_tables(call: Call) -> bool {
 }
 
 /// The cases of a call's group.
-fn cases_of(call: Call, seed: u64) -> Vec<Case> {
+pub fn cases_of(call: Call, seed: u64) -> Vec<Case> {
     if !has_tables(call) {
         return sample(call, Style::RECORDER, seed, quotas(call, 0), None);
     }

@@ -1,6 +1,8 @@
-//! What each call must answer: the number of refusal by document 01's table
-//! (the lowest that applies), for accepted calls the original's own answer, and
-//! in all cases what every lent buffer holds afterwards.
+//! What each call must answer: the number of refusal by the tables of documents
+//! 01 and 02 (the first that applies, in the call's order), for accepted calls the
+//! original's own answer, and in all cases what every lent buffer holds afterwards.
+//!
+//! 15 is said by the table alone: the original would draw the retired kinds.
 //!
 //! Two things the original does not say. The tile's number after 8 comes from
 //! the model, whose whole pictures the self-check holds to the original; and
@@ -10,12 +12,13 @@
 
 use crate::case::{Answer, Candidates, Case, LentTables, List, Lookup, PickCase, Quantize, ToMode, Value};
 use crate::hooks::Tables;
-use crate::model;
+use crate::model::{self, is_retired};
 use crate::original::{self, How, Settings};
 
 /// The first number whose test holds; 0 where none does. Tests stand in the
-/// order of their numbers.
-fn lowest(tests: &[(u32, bool)]) -> u32 {
+/// order of the call's replies. That is not the order of the numbers: 15 comes
+/// directly after 1.
+fn first_said(tests: &[(u32, bool)]) -> u32 {
     tests.iter().find(|(_, said)| *said).map_or(0, |(number, _)| *number)
 }
 
@@ -75,7 +78,7 @@ fn bad_list_lengths(list: &List) -> bool {
 /// The refusals of a lookup; `other` is what it measures besides the lists.
 fn lookup_refusal(list: &List, other: bool) -> u32 {
     let n = list.reduced.len() / 4;
-    lowest(&[
+    first_said(&[
         (3, bad_list_lengths(list) || other),
         (4, n == 0 || n > 65_536),
         (6, list.oklab.iter().any(|&v| bad_component(v))),
@@ -85,20 +88,20 @@ fn lookup_refusal(list: &List, other: bool) -> u32 {
 // Small calls.
 
 fn oklab_sqdist(six: [f32; 6]) -> Answer {
-    let number = lowest(&[(6, six.iter().any(|&v| bad_component(v)))]);
+    let number = first_said(&[(6, six.iter().any(|&v| bad_component(v)))]);
     let [a, b] = [[six[0], six[1], six[2]], [six[3], six[4], six[5]]];
     let distance = (number == 0).then(|| original::sqdist(a, b).to_bits());
     Answer(vec![("number", Value::Number(number)), ("distance", Value::Float(distance))])
 }
 
 fn ordered_threshold(kind: u32, x: u32, y: u32) -> Answer {
-    let number = lowest(&[(1, bad_kind(kind)), (9, unordered(kind))]);
+    let number = first_said(&[(1, bad_kind(kind)), (15, is_retired(kind)), (9, unordered(kind))]);
     let threshold = (number == 0).then(|| original::threshold(kind, x, y).to_bits());
     Answer(vec![("number", Value::Number(number)), ("threshold", Value::Float(threshold))])
 }
 
 fn bracket_width(shift: u32, max: u64) -> Answer {
-    let number = lowest(&[(1, bad_shift(shift))]);
+    let number = first_said(&[(1, bad_shift(shift))]);
     let width = (number == 0).then(|| original::bracket_width(shift, max));
     Answer(vec![("number", Value::Number(number)), ("width", Value::Word64(width))])
 }
@@ -143,7 +146,12 @@ fn ordered_bracket(lookup: &Lookup, dark: &[u8], light: &[u8]) -> Answer {
 
 fn pick(case: &PickCase) -> Answer {
     let lengths = [case.dark.len(), case.light.len(), case.chosen.len()];
-    let number = lowest(&[(1, bad_kind(case.kind)), (3, lengths != [4; 3]), (9, unordered(case.kind))]);
+    let number = first_said(&[
+        (1, bad_kind(case.kind)),
+        (15, is_retired(case.kind)),
+        (3, lengths != [4; 3]),
+        (9, unordered(case.kind)),
+    ]);
     let mut chosen = case.chosen.clone();
     if number == 0 {
         let [dark, light] = [&case.dark, &case.light].map(|c| c[..].try_into().unwrap());
@@ -179,7 +187,7 @@ fn collect(how: How, size: [u32; 2], pixels: &[u8], places: &[u8], oklab: &[f32]
 
 fn candidate_colors_in(case: &Candidates) -> Answer {
     let (width, height) = (case.width, case.height);
-    let number = lowest(&[
+    let number = first_said(&[
         (1, bad_shift(case.shift)),
         (2, bad_size(width, height)),
         (
@@ -209,8 +217,9 @@ fn candidate_colors_in(case: &Candidates) -> Answer {
 fn quantize_refusal(case: &Quantize) -> u32 {
     let (width, height) = (case.width, case.height);
     let entries = case.palette.len() / 4;
-    lowest(&[
+    first_said(&[
         (1, bad_kind(case.kind) || bad_shift(case.shift)),
+        (15, is_retired(case.kind)),
         (2, bad_size(width, height)),
         (
             3,
@@ -246,8 +255,9 @@ fn quantize_pixels(case: &Quantize) -> Answer {
 
 fn to_mode_refusal(case: &ToMode) -> u32 {
     let (width, height) = (case.width, case.height);
-    lowest(&[
+    first_said(&[
         (1, bad_kind(case.kind) || bad_shift(case.shift)),
+        (15, is_retired(case.kind)),
         (2, bad_size(width, height) || bad_origin(case.origin[0], width) || bad_origin(case.origin[1], height)),
         (
             3,

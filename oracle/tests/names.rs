@@ -1,5 +1,6 @@
 //! What the command knows by itself is the original's: the modes with their
-//! shifts, the kinds with their numbers and words, and the tables.
+//! shifts, the kinds with their numbers and words, and the tables; and which kinds
+//! are retired is document 02's.
 
 #[allow(dead_code)]
 #[path = "../../cli/src/names.rs"]
@@ -10,6 +11,7 @@ mod tables;
 use names::{KINDS, LEFT_OUT, MODES, same};
 use oracle::mode::Mode::{self, *};
 use oracle::mode::color::ModeColor;
+use oracle::model::RETIRED;
 use oracle::original::{kind_names, kind_numbers, modes_of, own_tables};
 use tables::{ModeTables, Rounding};
 
@@ -77,6 +79,12 @@ fn kinds() {
         assert!(same(ours.name, name) && same(ours.caption, name), "{number} {name}");
         assert_eq!(ours.word, word);
     }
+}
+
+#[test]
+fn retired_kinds() {
+    let retired = (0..).zip(&KINDS).filter(|(_, kind)| kind.retired).map(|(number, _)| number);
+    assert!(retired.eq(RETIRED));
 }
 
 #[test]

@@ -6,13 +6,14 @@
 //!
 //!   differences [--seed N] [--pictures N]
 //!
-//! The pictures, 64x64 each: for every kind and shift, N of noise and N
-//! gradients between two random colours, with the original's own tables of
-//! both roundings in turn; against a palette of 16 random colours
+//! The pictures, 64x64 each: for every kind that the port draws and every shift,
+//! N of noise and N gradients between two random colours, with the original's own
+//! tables of both roundings in turn; against a palette of 16 random colours
 //! (quantize_pixels), and to the mode with tiles of 8x8 and limit 256, so that
 //! no tile is over it (dither_to_mode).
 
 use oracle::hooks::Tables;
+use oracle::model::DRAWN;
 use oracle::original::{self, How, Records, Settings, own_tables};
 use oracle::rng::Rng;
 use oracle::words::number_after;
@@ -23,6 +24,10 @@ const SIDE: u32 = 64;
 /// Before the request and after it.
 const ROOTS: [Root; 2] = [Root::Down, Root::Nearest];
 const PUBLISHED: [Conversion; 2] = [Conversion::PublishedF64, Conversion::PublishedF32];
+
+/// The kinds in the order of `DRAWN`.
+const NAMES: [&str; DRAWN.len()] =
+    ["Off", "Bayer 2x2", "Bayer 4x4", "Bayer 8x8", "Checker", "Line V", "Line H", "Atkinson", "Floyd-Steinberg"];
 
 fn noise(rng: &mut Rng) -> Vec<u8> {
     (0..SIDE * SIDE).flat_map(|_| [rng.byte(), rng.byte(), rng.byte(), 255]).collect()
@@ -149,25 +154,12 @@ fn of_kind(kind: u32, seed: u64, pictures: u64) -> [Count; 2] {
 
 fn main() {
     let (seed, pictures) = (number_after("--seed", 1), number_after("--pictures", 4));
-    let names = [
-        "Off",
-        "Bayer 2x2",
-        "Bayer 4x4",
-        "Bayer 8x8",
-        "Checker",
-        "Stipple V",
-        "Stipple H",
-        "Line V",
-        "Line H",
-        "Atkinson",
-        "Floyd-Steinberg",
-    ];
     println!("seed {seed}, {} pictures of 64x64 for each kind and call\n", 6 * pictures);
     println!("differ under the published conversion, in f64 / f32:\n");
     println!("| call and kind | pixels | root downward | nearest root | nearest from downward |");
     println!("|---|---|---|---|---|");
     let mut total = Count::default();
-    for (name, kind) in names.into_iter().zip(0..) {
+    for (name, kind) in NAMES.into_iter().zip(DRAWN) {
         let counts = of_kind(kind, seed, pictures);
         for (count, call) in counts.iter().zip(["quantize_pixels", "dither_to_mode"]) {
             count.print(&format!("{call}, {name}"));

@@ -1,6 +1,11 @@
 //! The kinds of dithering, by number, under the C header's names without
 //! their `BADGE_`. Calls take the number, and refuse one above 10 with
 //! [`Refusal::KindOrShift`](crate::Refusal::KindOrShift).
+//!
+//! Two kinds are retired, and every call that takes a kind refuses them with
+//! [`Refusal::RetiredKind`](crate::Refusal::RetiredKind). Their numbers are
+//! never given to another kind, so that a number that somebody kept is not
+//! drawn as something else.
 
 /// No dithering: the nearest colour.
 pub const OFF: u32 = 0;
@@ -12,9 +17,11 @@ pub const BAYER_4X4: u32 = 2;
 pub const BAYER_8X8: u32 = 3;
 /// Ordered, a checkerboard.
 pub const CHECKER: u32 = 4;
-/// Ordered, vertical stipple.
+/// Retired: vertical stipple.
+#[deprecated(since = "0.4.0", note = "retired: every call refuses it with `Refusal::RetiredKind`")]
 pub const STIPPLE_V: u32 = 5;
-/// Ordered, horizontal stipple.
+/// Retired: horizontal stipple.
+#[deprecated(since = "0.4.0", note = "retired: every call refuses it with `Refusal::RetiredKind`")]
 pub const STIPPLE_H: u32 = 6;
 /// Ordered, vertical lines.
 pub const LINE_V: u32 = 7;

@@ -104,7 +104,8 @@ pub fn ordered_bracket(list: Candidates, color: NormalizedColor, width: u64) -> 
 /// Which entry of a bracket stands at column `x` and row `y`: the lighter one
 /// if the two colours differ and the ratio exceeds the kind's threshold there.
 /// Any ratio will do; a NaN exceeds nothing. Refuses with
-/// [`KindOrShift`](Refusal::KindOrShift) and [`NoMatrix`](Refusal::NoMatrix).
+/// [`KindOrShift`](Refusal::KindOrShift), [`RetiredKind`](Refusal::RetiredKind)
+/// and [`NoMatrix`](Refusal::NoMatrix).
 #[rustfmt::skip]
 pub fn pick(bracket: Bracket, kind: u32, x: u32, y: u32) -> Result<Choice, Refusal> {
     let (dark, light, mut chosen) = (bracket.dark.0, bracket.light.0, [0; 4]);

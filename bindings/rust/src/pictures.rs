@@ -90,7 +90,7 @@ pub fn candidate_colors_in(shift: u32, picture: Picture, tables: Tables, rooms: 
 /// each. Writes a palette index a pixel into `indices`, and the colours,
 /// normalised, into `output.out`; a transparent pixel gets 0 and four zeros.
 ///
-/// Refuses with 1, 2, 3 and 4.
+/// Refuses with 1, 15, 2, 3 and 4.
 #[rustfmt::skip]
 pub fn quantize_pixels(
     shift: u32,
@@ -118,7 +118,7 @@ pub fn quantize_pixels(
 /// [`candidate_colors_in`] leaves them; the colours, normalised, are in
 /// `output.out`.
 ///
-/// Refuses with 1, 2, 3, 5, 7 and 8, of which the last has the tile.
+/// Refuses with 1, 15, 2, 3, 5, 7 and 8, of which the last has the tile.
 #[rustfmt::skip]
 pub fn dither_to_mode(
     settings: Settings,

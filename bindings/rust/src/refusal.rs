@@ -48,6 +48,9 @@ pub enum Refusal {
     /// 11: a PAM file that has fewer bytes after its header than the pixels
     /// take, or more. It comes directly after 2.
     PamPixels,
+    /// 15: a retired kind, 5 or 6: one of the two stipples. It comes directly
+    /// after 1.
+    RetiredKind,
     /// A number that the table does not have. The archive of this repository
     /// never gives one: another was linked.
     Unknown(u32),
@@ -68,6 +71,7 @@ impl Refusal {
             Refusal::NoMatrix => 9,
             Refusal::PamHeader => 10,
             Refusal::PamPixels => 11,
+            Refusal::RetiredKind => 15,
             Refusal::Unknown(number) => number,
         }
     }
@@ -86,6 +90,7 @@ impl Refusal {
             9 => Err(Refusal::NoMatrix),
             10 => Err(Refusal::PamHeader),
             11 => Err(Refusal::PamPixels),
+            15 => Err(Refusal::RetiredKind),
             other => Err(Refusal::Unknown(other)),
         }
     }
@@ -105,6 +110,7 @@ impl fmt::Display for Refusal {
             Refusal::NoMatrix => "the kind has no matrix",
             Refusal::PamHeader => "no PAM header that is read, or no pixels",
             Refusal::PamPixels => "the PAM file's pixels are cut short, or something is left over",
+            Refusal::RetiredKind => "the kind is retired",
             Refusal::Unknown(_) => "a number that is not in the table",
         };
         write!(f, "{}: {why}", self.number())

@@ -52,7 +52,8 @@ pub fn oklab_sqdist(first: Oklab, second: Oklab) -> Result<f32, Refusal> {
 }
 
 /// The threshold of an ordered kind at column `x` and row `y`. Refuses with
-/// [`KindOrShift`](Refusal::KindOrShift) and [`NoMatrix`](Refusal::NoMatrix).
+/// [`KindOrShift`](Refusal::KindOrShift), [`RetiredKind`](Refusal::RetiredKind)
+/// and [`NoMatrix`](Refusal::NoMatrix).
 pub fn ordered_threshold(kind: u32, x: u32, y: u32) -> Result<f32, Refusal> {
     let mut threshold = 0.0;
     // SAFETY: the pointer is to a live value.

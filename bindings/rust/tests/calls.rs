@@ -139,7 +139,7 @@ fn every_kind_quantizes() {
     let (t, palette) = (five_bits(), [BLACK, WHITE, WHITE].concat());
     let pixels: Vec<u8> = (0..64).flat_map(|i| if i == 9 { CLEAR } else { grey(4 * i as u8) }).collect();
     let picture = Picture { width: 8, height: 8, pixels: &pixels };
-    for kind in 0..=10 {
+    for kind in DRAWN {
         let mut lent = Lent::new(64, kind, 0);
         assert_eq!(lent.quantize(3, kind, picture, t.tables(), &palette), Ok(()), "kind {kind}");
         assert_eq!((lent.indices[9], &lent.out[36..40]), (0, &[0; 4][..]), "a transparent pixel");
@@ -155,7 +155,7 @@ fn every_kind_dithers_to_a_mode() {
     let t = five_bits();
     let pixels: Vec<u8> = (0..64).flat_map(|i| grey(4 * i as u8)).collect();
     let picture = Picture { width: 8, height: 8, pixels: &pixels };
-    for kind in 0..=10 {
+    for kind in DRAWN {
         let mut lent = Lent::new(64, kind, 40);
         assert_eq!(lent.dither(settings(kind), picture, t.tables()), Ok(32), "kind {kind}");
         assert_eq!(lent.places[..8], [[0, 0, 0, 255], [1, 1, 1, 255]].concat());
@@ -179,7 +179,7 @@ fn pictures_without_pixels() {
     let t = five_bits();
     for (width, height) in [(0, 0), (0, 4096), (4096, 0)] {
         let picture = Picture { width, height, pixels: &[] };
-        for kind in 0..=10 {
+        for kind in DRAWN {
             let mut lent = Lent::new(0, kind, 0);
             assert_eq!(lent.quantize(3, kind, picture, t.tables(), &BLACK), Ok(()));
             assert_eq!(lent.dither(settings(kind), picture, t.tables()), Ok(0));

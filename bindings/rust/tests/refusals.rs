@@ -1,5 +1,5 @@
 //! Every number of the table, from each call that can give it; what a refusal
-//! leaves; slices of no length; and the lowest number where several apply.
+//! leaves; slices of no length; and the first number where several apply.
 
 mod common;
 
@@ -147,6 +147,44 @@ fn dithering_to_a_mode() {
         assert_eq!(dithered(Settings { tile, ..ok }, |_| ()), Some(5));
     }
     assert_eq!(dithered(Settings { limit: 257, ..ok }, |_| ()), Some(5));
+}
+
+#[test]
+fn retired_kinds() {
+    let (t, dark, light) = (five_bits(), ReducedColor(BLACK), ReducedColor(WHITE));
+    let two = Bracket { dark, light, ratio: 0.5, dark_position: 0, light_position: 1 };
+    for kind in RETIRED {
+        assert_eq!(ordered_threshold(kind, 0, 0), Err(Refusal::RetiredKind));
+        assert_eq!(pick(two, kind, 0, 0), Err(Refusal::RetiredKind));
+        assert_eq!(pick(Bracket { light: dark, ..two }, kind, 0, 0), Err(Refusal::RetiredKind));
+        assert_eq!(quantized(3, kind, [1, 1], &BLACK, |_| ()), Some(15));
+        assert_eq!(dithered(settings(kind), |_| ()), Some(15));
+        let (mut lent, nothing) = (Lent::new(0, kind, 0), row(&[]));
+        assert_eq!(lent.quantize(3, kind, nothing, t.tables(), &BLACK), Err(Refusal::RetiredKind));
+        assert_eq!(lent.dither(settings(kind), nothing, t.tables()), Err(Refusal::RetiredKind));
+    }
+    assert_eq!(Refusal::RetiredKind.to_string(), "15: the kind is retired");
+}
+
+#[test]
+fn a_retired_kind_comes_directly_after_1() {
+    for kind in RETIRED {
+        for shift in [0, 2, 6, u32::MAX] {
+            assert_eq!(quantized(shift, kind, [4097, 1], &[], |l| l.out.clear()), Some(1));
+            assert_eq!(dithered(Settings { shift, tile: [0, 0], ..settings(kind) }, |l| l.out.clear()), Some(1));
+        }
+        assert_eq!(quantized(5, kind, [4097, 1], &[], |l| l.out.clear()), Some(15), "and 2, 3, 4");
+        assert_eq!(quantized(4, kind, [1, 2], &BLACK, |_| ()), Some(15), "and 3");
+        assert_eq!(quantized(3, kind, [1, 1], &[], |_| ()), Some(15), "and 4");
+
+        let ok = settings(kind);
+        let far = Settings { origin: [u32::MAX; 2], tile: [0, 0], limit: 257, ..ok };
+        assert_eq!(dithered(far, |l| l.oklab.clear()), Some(15), "and 2, 3, 5");
+        assert_eq!(dithered(ok, |l| l.cells.push(0.0)), Some(15), "and 3");
+        assert_eq!(dithered(Settings { tile: [0, 8], ..ok }, |_| ()), Some(15), "and 5");
+        assert_eq!(dithered(ok, |l| (l.places, l.oklab) = Default::default()), Some(15), "and 7");
+        assert_eq!(dithered(Settings { limit: 0, ..ok }, |_| ()), Some(15), "and 8");
+    }
 }
 
 #[test]

@@ -10,6 +10,9 @@ pub fn modes() -> impl Iterator<Item = (&'static str, u32)> {
     lists.into_iter().flat_map(|(names, shift)| names.split(' ').map(move |name| (name, shift)))
 }
 
+/// The kinds that are drawn, by number.
+pub const DRAWN: [u32; 9] = [0, 1, 2, 3, 4, 7, 8, 9, 10];
+
 pub struct Console {
     shift: u32,
     reduction: Vec<u8>,

@@ -5,7 +5,6 @@ use mathlib.Core.Path.{_≡_, refl, sym, ap, _∙_, subst}
 use mathlib.Core.Bool.{Bool, true, false, cond, not}
 use mathlib.Core.List.{List, [], _∷_}
 use Prim.Native.Nat.{ℕ, zero, suc, _*_, _/_, _%_, _≤_}
-use native.Mathlib.Omega.{arith}
 use borrow.Author.Tests.{ltb-false, ne-eqb}
 use lib.Dec.{ltb, eqb}
 use lib.Ieee.{Float}
@@ -14,7 +13,7 @@ use Rattle.color.specs.declared.ReducedColor.{ReducedColor}
 use Rattle.replies.specs.Replies.{Reply, _if_, firstReply, Lowest, after, NoneApplies}
 use Rattle.replies.specs.Unique.{Unique}
 use Rattle.lists.proofs.Bools.{or-split, equals}
-use Rattle.replies.proofs.ReplyLaws.{reply-zero, reply-none, reply-at, reply-front, reply-upto, after-refused}
+use Rattle.replies.proofs.ReplyLaws.{reply-zero, reply-none, reply-at, reply-front, reply-other, none-both, after-refused}
 use Rattle.replies.proofs.AnswerLaws.{answers, answers-only, answers-lowest, value-number, value-other}
 use Rattle.picture.specs.Bounds.{lentWrong}
 use Rattle.picture.proofs.BoundLaws.{sized, lent-so}
@@ -90,7 +89,7 @@ module _ (x : Asked) where
       (after-refused r (oklabWith (x .scale) cs (x .oklab)) (x .oklab) n)
     where
       not-seven : r ≡ 7 → ⊥
-      not-seven q = omega (arith, e, reply-upto 3 checked tt)
+      not-seven q = reply-other 7 checked tt (sym e ∙ q)
 
   pub call-collected : firstReply checked ≡ 0 → {r s : Collected} {places : List ℕ} {oklab : List Float}
       → Collects cs (x .scale) (x .places) (x .oklab) s places oklab → s ≡ r → CandidateColors x (answer-from r) places oklab
@@ -110,7 +109,7 @@ module _ (x : Asked) where
 
       go : (t : Bool) → full ≡ t → CandidateColors x (answer-from r) places oklab
       go true t = call-is 7 (reply-at checked (7 if full) [] none t) (answer t) (bytes t) (floats t)
-      go false t = call-is 0 (reply-zero (replies x) (none .0, (none .1 .0, (none .1 .1 .0, (t, tt))))) (answer t) (bytes t) (floats t)
+      go false t = call-is 0 (reply-zero (replies x) (none-both checked (7 if full ∷ []) none (t, tt))) (answer t) (bytes t) (floats t)
 
   -- ---- the number, and one result
   pub number-is : {r : CandidateCount} {places : List ℕ} {oklab : List Float} → CandidateColors x r places oklab → Lowest (replies x) (numberOf r)

@@ -4,12 +4,11 @@ use mathlib.Core.Path.{_≡_, refl, sym, _∙_, ap}
 use mathlib.Core.Bool.{Bool, true, false, cond}
 use mathlib.Core.List.{List, [], _∷_, _++_}
 use Prim.Native.Nat.{ℕ}
-use native.Mathlib.Omega.{arith}
 use borrow.Author.Tests.{ne-eqb}
 use lib.ListN.{length, replicate}
 use lib.Ieee.{Float, ofBits, binary32}
 use Rattle.replies.specs.Replies.{Reply, _if_, firstReply, after, NoneApplies}
-use Rattle.replies.proofs.ReplyLaws.{reply-zero, reply-none, reply-at, reply-front, reply-upto, after-refused}
+use Rattle.replies.proofs.ReplyLaws.{reply-zero, reply-none, reply-at, reply-front, reply-other, none-both, after-refused}
 use Rattle.drawing.specs.Lent.{cellsAfter}
 use Rattle.candidates.specs.Rooms.{placesWith, oklabWith, tooMany}
 use Rattle.dither.specs.declared.Dithered.{Dithered}
@@ -62,9 +61,8 @@ module _ (q : Commission) (was : Buffers) where
   pub call-refused : {n : ℕ} → n ≡ firstReply (checks (q .settings) (lengthsOf q was)) → (n ≡ 0 → ⊥) → DitheredToMode q was (Refused n) was
   unfolding placesAfter oklabAfter outAfter cellsLeft
   call-refused {n} e some =
-      let few = reply-upto 5 before tt in
-      let not-seven : n ≡ 7 → ⊥ = λ z. omega (arith, few, e) in
-      let not-eight : n ≡ 8 → ⊥ = λ z. omega (arith, few, e) in
+      let not-seven : n ≡ 7 → ⊥ = λ z. reply-other 7 before tt (sym e ∙ z) in
+      let not-eight : n ≡ 8 → ⊥ = λ z. reply-other 8 before tt (sym e ∙ z) in
       call-is n (reply-front before (seven ∷ eight ∷ []) (λ z. some (e ∙ z)) ∙ sym e) refl (refused-as n some not-eight)
       (rw (ne-eqb n 7 not-seven) (unchanged n _ _ (was .places) some not-eight)) (unchanged n _ _ (was .oklab) some not-eight)
       (unchanged n _ _ (was .out) some not-eight) (unchanged n _ _ (was .cells) some not-eight)
@@ -91,7 +89,6 @@ module _ (q : Commission) (was : Buffers) where
             → cells ≡ cond b (replicate (length (was .cells)) (ofBits binary32 0)) (cellsAfter (dithering q) (was .cells))
             → DitheredToMode q was r (buffers places oklab out cells)
         go true b a x y =
-            call-is 8 (reply-at (before ++ seven ∷ []) eight [] (none .0, (none .1 .0, (none .1 .1 .0, (none .1 .1 .1 .0, (t, tt))))) b) (ap numberOf a) a
-            p o x y
+            call-is 8 (reply-at (before ++ seven ∷ []) eight [] (none-both before (seven ∷ []) none (t, tt)) b) (ap numberOf a) a p o x y
         go false b a x y =
-            call-is 0 (reply-zero (replies q was) (none .0, (none .1 .0, (none .1 .1 .0, (none .1 .1 .1 .0, (t, (b, tt))))))) (ap numberOf a) a p o x y
+            call-is 0 (reply-zero (replies q was) (none-both before (seven ∷ eight ∷ []) none (t, (b, tt)))) (ap numberOf a) a p o x y

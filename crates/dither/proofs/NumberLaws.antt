@@ -1,16 +1,16 @@
--- What the number says: it is the lowest that applies (`number-is`), and where no check refuses, all sizes and lengths fit (`accepted`).
+-- What the number says: it is the first that applies (`number-is`), and where no check refuses, all sizes and lengths fit (`accepted`).
 -- Assumes nothing.
-use mathlib.Core.Path.{_≡_, sym, _∙_, subst}
+use mathlib.Core.Path.{_≡_, _∙_}
 use mathlib.Core.Bool.{false, not}
 use Prim.Native.Nat.{ℕ, _*_, _/_, _≤_}
 use native.Mathlib.Omega.{arith}
 use borrow.Author.Tests.{ltb-false, eqb-false, not-false}
 use lib.Dec.{eqb}
 use lib.ListN.{length}
-use Rattle.replies.specs.Replies.{Lowest, firstReply}
+use Rattle.replies.specs.Replies.{FirstReply, firstReply}
 use Rattle.lists.proofs.Bools.{or-split, equals}
 use Rattle.replies.proofs.ReplyLaws.{reply-none}
-use Rattle.replies.proofs.LowestLaws.{lowest-is}
+use Rattle.replies.proofs.AnswerLaws.{answers-first}
 use Rattle.picture.specs.Bounds.{sizeWrong, originWrong, lentWrong, sideWrong}
 use Rattle.picture.proofs.BoundLaws.{sized, lent-so}
 use Rattle.patterns.specs.Kinds.{isKind, cellsNeeded}
@@ -21,8 +21,8 @@ use Rattle.dither.specs.declared.Dithered.{Dithered}
 use Rattle.dither.specs.Mode.{Commission, Buffers, size, lengthsOf, boundsWrong, lengthsWrong, budgetWrong, checks, replies, numberOf, DitheredToMode}
 use Rattle.dither.specs.Steps.{Fitting}
 
-pub number-is : {q : Commission} {was then : Buffers} {r : Dithered} → DitheredToMode q was r then → Lowest (replies q was) (numberOf r)
-number-is {q} {was} p = subst (Lowest (replies q was)) (sym (p .answer .number)) (lowest-is (replies q was) tt)
+pub number-is : {q : Commission} {was then : Buffers} {r : Dithered} → DitheredToMode q was r then → FirstReply (replies q was) (numberOf r)
+number-is p = answers-first _ _ _ tt (p .answer)
 
 -- the picture's size, where its bounds are not wrong
 pub bounded : (s : Settings) → boundsWrong s ≡ false → s .width * s .height ≤ 1048576
@@ -45,14 +45,14 @@ module _ (q : Commission) (b : Buffers) (e : firstReply (checks (q .settings) (l
       let n = size q in
       let none = reply-none (checks s l) tt e in
       let mode = or-split (not (isKind (s .kind))) _ (none .0) in
-      let b1 = or-split (sizeWrong (s .width) (s .height)) _ (none .1 .0) in
+      let b1 = or-split (sizeWrong (s .width) (s .height)) _ (none .1 .1 .0) in
       let b2 = or-split (originWrong (s .«origin_x») (s .width)) _ (b1 .1) in
       let bounds = sized (s .width) (s .height) (b1 .0) in
-      let l1 = or-split (lentWrong (l .reduction) (l .scale) (l .pixels) n) _ (none .1 .1 .0) in
+      let l1 = or-split (lentWrong (l .reduction) (l .scale) (l .pixels) n) _ (none .1 .1 .1 .0) in
       let l2 = or-split (roomsWrong (l .places) (l .oklab)) _ (l1 .1) in
       let l3 = or-split (not (eqb (l .out) (4 * n))) _ (l2 .1) in
       let lent = lent-so (l .reduction) (l .scale) (l .pixels) n (l1 .0) in
-      let t1 = or-split (sideWrong (s .«tile_width»)) _ (none .1 .1 .1 .0) in
+      let t1 = or-split (sideWrong (s .«tile_width»)) _ (none .1 .1 .1 .1 .0) in
       let t2 = or-split (sideWrong (s .«tile_height»)) _ (t1 .1) in
       let across = side (s .«tile_width») (t1 .0) in
       let down = side (s .«tile_height») (t2 .0) in
@@ -81,5 +81,5 @@ module _ (q : Commission) (b : Buffers) (e : firstReply (checks (q .settings) (l
   room =
       let l = lengthsOf q b in
       let none = reply-none (checks (q .settings) l) tt e in
-      let l1 = or-split (lentWrong (l .reduction) (l .scale) (l .pixels) (size q)) _ (none .1 .1 .0) in
+      let l1 = or-split (lentWrong (l .reduction) (l .scale) (l .pixels) (size q)) _ (none .1 .1 .1 .0) in
       roomy _ _ (or-split (roomsWrong (l .places) (l .oklab)) _ (l1 .1) .0)

@@ -1,7 +1,8 @@
 -- What `dither_to_mode` answers, and what its four lent buffers hold afterwards. Definitions only.
 -- Written from document 01, "Choosing colours" ("`dither_to_mode` uses source origin plus position", "max is .. the tile limit in
 -- `dither_to_mode`", "In `dither_to_mode` a non-transparent pixel whose reduced rgb equals colour zero's keeps its reduced colour") and "Bounds and
--- replies". The candidates, the drawn picture and the judged tiles are defined in `candidates`, `drawing` and `judging`.
+-- replies"; and from document 02, Ask 9: "15 for kinds 5 and 6 in every call that takes a kind, directly after 1". The candidates, the drawn picture
+-- and the judged tiles are defined in `candidates`, `drawing` and `judging`.
 use Prim.Native.Nat.{ℕ, _*_}
 use mathlib.Core.Path.{_≡_}
 use mathlib.Core.Bool.{Bool, cond, not, _||_}
@@ -17,7 +18,7 @@ use Rattle.color.specs.Color.{bytesOf}
 use Rattle.picture.specs.Bounds.{sizeWrong, originWrong, lentWrong, sideWrong}
 use Rattle.picture.specs.Pixels.{reducedBy, isSeen}
 use Rattle.conversion.specs.Lists.{listOklab}
-use Rattle.patterns.specs.Kinds.{isKind, cellsNeeded}
+use Rattle.patterns.specs.Kinds.{isKind, isRetired, cellsNeeded}
 use Rattle.mixing.specs.Widths.{isShift, widthOf}
 use Rattle.drawing.specs.declared.Ditherer.{Ditherer}
 use Rattle.drawing.specs.Drawing.{Drawing, drawn}
@@ -138,10 +139,11 @@ lengthsWrong kind n s =
 unfoldable pub budgetWrong : Settings → Bool
 budgetWrong s = sideWrong (s .«tile_width») || (sideWrong (s .«tile_height») || ltb 256 (s .limit))
 
--- the rows of document 01's table that need no look at a pixel, and all that this call can answer with
+-- the numbers that need no look at a pixel, in their order, and all that this call can answer with
 abbrev pub checks : Settings → Lengths → List Reply
 checks s lengths =
     1 if (not (isKind (s .kind)) || not (isShift (s .shift)))
+    ∷ 15 if isRetired (s .kind)
     ∷ 2 if boundsWrong s
     ∷ 3 if lengthsWrong (s .kind) (s .width * s .height) lengths
     ∷ 5 if budgetWrong s

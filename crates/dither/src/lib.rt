@@ -76,14 +76,20 @@ fn budget_wrong(s: Settings) -> bool
     picture::side_wrong(s.tile_width) | (picture::side_wrong(s.tile_height) | (256 < s.limit))
 }
 
-// The number of the refusals that need no look at a pixel: 0 where there is none, else the lowest that applies.
+// The number of the refusals that need no look at a pixel: 0 where there is none, else the first that applies.
 fn refusal(s: Settings, lengths: Lengths) -> u8
     ensures { λ n. ⌜ n ≡ firstReply (checks s lengths) ⌝ }
 {
-    if !patterns::is_kind(s.kind) | !mixing::is_shift(s.shift) {
+    let mode_wrong = !patterns::is_kind(s.kind) | !mixing::is_shift(s.shift);
+    let retired = patterns::is_retired(s.kind);
+    let size_wrong = bounds_wrong(s);
+    if mode_wrong {
         return 1;
     }
-    if bounds_wrong(s) {
+    if retired {
+        return 15;
+    }
+    if size_wrong {
         return 2;
     }
     let size = s.width as usize * s.height as usize;

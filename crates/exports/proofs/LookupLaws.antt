@@ -1,5 +1,5 @@
 -- The lookups and `pick` through the C interface: positions are below 65,536, so that they fit a u32; what is refused for a length that is not 4, and
--- that the flat calls' answers hold where all are; and that the numbers are the lowest that apply. Assumes nothing.
+-- that the flat calls' answers hold where all are; and that the number of a bracket is the lowest that applies, of `pick` the first. Assumes nothing.
 use mathlib.Core.Path.{_≡_, refl, sym, ap, _∙_, subst}
 use mathlib.Core.List.{List, [], _∷_}
 use mathlib.Core.Bool.{Bool, true, false, not, _&&_}
@@ -11,8 +11,9 @@ use lib.ListN.{length}
 use lib.Seq.{sets}
 use lib.Ieee.{Float}
 use Rattle.lists.proofs.Bools.{and-split}
-use Rattle.replies.specs.Replies.{firstReply, Lowest}
+use Rattle.replies.specs.Replies.{firstReply, FirstReply, Lowest}
 use Rattle.replies.proofs.AnswerLaws.{answered}
+use Rattle.replies.proofs.ReplyLaws.{reply-is}
 use Rattle.replies.proofs.LowestLaws.{lowest-is}
 use Rattle.color.specs.declared.Rgba8888.{Rgba8888}
 use Rattle.color.specs.declared.NormalizedColor.{NormalizedColor}
@@ -20,7 +21,7 @@ use Rattle.color.specs.declared.ReducedColor.{ReducedColor}
 use Rattle.color.specs.Color.{rgba, reducedAt, bytesOf}
 use Rattle.color.specs.Oklab.{oklabAt}
 use Rattle.conversion.specs.Oklab.{toOklab}
-use Rattle.patterns.specs.Kinds.{isKind}
+use Rattle.patterns.specs.Kinds.{isKind, isRetired}
 use Rattle.patterns.specs.Thresholds.{thresholdReplies}
 use Rattle.shortlist.specs.Candidates.{flat}
 use Rattle.shortlist.proofs.NearestLaws.{nearest-inside}
@@ -136,20 +137,24 @@ module _ (dark light : List ℕ) (ratio : Float) (kind x y : ℕ) (chosen : List
   unfolding pickRooms
   pick-kind h = rw h
 
-  module _ (known : not (isKind kind) ≡ false) where
+  pub pick-retired : not (isKind kind) ≡ false → isRetired kind ≡ true → pickRooms dark light ratio kind x y chosen ≡ picked.Refused 15
+  unfolding pickRooms
+  pick-retired known h = rw (known, h)
+
+  module _ (known : not (isKind kind) ≡ false) (there : isRetired kind ≡ false) where
     pub pick-lengths : not rooms ≡ true → pickRooms dark light ratio kind x y chosen ≡ picked.Refused 3
     unfolding pickRooms
-    pick-lengths e = rw (known, e)
+    pick-lengths e = rw (known, there, e)
 
     -- `pick`'s answer p, asked of the two colours read, that is the case q
     pub pick-is : not rooms ≡ false → (d l : ReducedColor) → d ≡ reducedAt dark 0 → l ≡ reducedAt light 0 → (p q : Picked)
         → PickedAt (bracketWithout d l ratio) kind x y p → p ≡ q → pickRooms dark light ratio kind x y chosen ≡ q
     unfolding pickRooms
     pick-is e d l D L p q a b =
-        let number : firstReply (badgePickReplies dark light kind chosen) ≡ firstReply (thresholdReplies kind) = rw (known, e) in
+        let number : firstReply (badgePickReplies dark light kind chosen) ≡ firstReply (thresholdReplies kind) = rw (known, there, e) in
         (λ i. pickAnswer (bracketWithout (sym D i) (sym L i) ratio) kind x y (number i)) ∙ sym (answered _ _ _ a) ∙ b
 
--- ---- the numbers are the lowest that apply
+-- ---- the number of a bracket is the lowest that applies, of `pick` the first
 
 pub bracket-lowest : (reduced normalized : List ℕ) (oklab : List Float) (r g b width : ℕ) (dark light : List ℕ) (ratio : Float) (darkAt lightAt : ℕ)
     → Lowest (badgeBracketReplies reduced normalized oklab dark light)
@@ -163,12 +168,12 @@ bracket-lowest reduced normalized oklab r g b width dark light ratio darkAt ligh
     number zero = refl
     number (suc n) = refl
 
-pub pick-lowest : (dark light : List ℕ) (ratio : Float) (kind x y : ℕ) (chosen : List ℕ)
-    → Lowest (badgePickReplies dark light kind chosen) (badgePick dark light ratio kind x y chosen .0)
+pub pick-first : (dark light : List ℕ) (ratio : Float) (kind x y : ℕ) (chosen : List ℕ)
+    → FirstReply (badgePickReplies dark light kind chosen) (badgePick dark light ratio kind x y chosen .0)
 unfolding pickRooms
-pick-lowest dark light ratio kind x y chosen =
+pick-first dark light ratio kind x y chosen =
     let replies = badgePickReplies dark light kind chosen in
-    subst (Lowest replies) (sym (number (firstReply replies))) (lowest-is replies tt)
+    subst (FirstReply replies) (sym (number (firstReply replies))) (reply-is replies tt)
   where
     number : (n : ℕ) → pickedLeft chosen (pickAnswer (bracketWithout (reducedAt dark 0) (reducedAt light 0) ratio) kind x y n) .0 ≡ n
     number zero = refl

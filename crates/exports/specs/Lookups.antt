@@ -2,7 +2,7 @@
 -- otherwise what was there; the number is the one that the answer's own definition gives (`numberOf` and the three beside it). The result is the
 -- definition that has the call's name, and that it is so is the call's promise. Definitions only.
 -- Written from document 01, "Bounds and replies": "The lowest number that applies is given", "A refusal returns no colour", "all unchanged"; and document
--- 02, Ask 4: "the bracket should answer with the taken records' positions besides the colours".
+-- 02, Ask 4: "the bracket should answer with the taken records' positions besides the colours"; Ask 9: 15 "directly after 1".
 use mathlib.Core.Path.{_≡_}
 use Prim.Native.Nat.{ℕ}
 use mathlib.Core.List.{List, [], _∷_}
@@ -13,7 +13,7 @@ use lib.Ieee.{Float}
 use Rattle.replies.specs.Replies.{Reply, _if_, firstReply}
 use Rattle.color.specs.declared.ReducedColor.{ReducedColor}
 use Rattle.color.specs.Color.{reducedAt, bytesOf}
-use Rattle.patterns.specs.Kinds.{isKind, isOrdered}
+use Rattle.patterns.specs.Kinds.{isKind, isRetired, isOrdered}
 use Rattle.lookup.specs.Lists.{listReplies}
 use Rattle.lookup.specs.Answers.{nearestAnswer, nearestTwoAnswer, bracketAnswer, pickAnswer, numberOf, numberOfTwo, numberOfBracket, numberOfPicked}
 use Rattle.lookup.specs.declared.Found.{Found}
@@ -98,10 +98,11 @@ PromisedOrderedBracket reduced normalized oklab r g b width dark light ratio dar
     left ≡ badgeOrderedBracket reduced normalized oklab r g b width dark light ratio darkAt lightAt
 
 -- ---- `badge_pick`: the number, and the bytes of the colour picked
--- the numbers, and when each applies: those of `pick`, and 3 for a wrong length of dark, light or chosen
+-- the numbers, and when each applies: those of `pick`, and after 15 a 3 for a wrong length of dark, light or chosen
 abbrev pub badgePickReplies : (dark light : List ℕ) → ℕ → (chosen : List ℕ) → List Reply
 badgePickReplies dark light kind chosen =
     (1 if not (isKind kind))
+    ∷ (15 if isRetired kind)
     ∷ (3 if not (isFour dark && (isFour light && isFour chosen)))
     ∷ (9 if not (isOrdered kind))
     ∷ []

@@ -84,7 +84,7 @@ pub extern "C" fn badge_oklab_sqdist(
     }
 }
 
-// The threshold of a kind at column x and row y; 1 and 9.
+// The threshold of a kind at column x and row y; 1, 15 and 9.
 #[no_mangle]
 pub extern "C" fn badge_ordered_threshold(kind: u32, x: u32, y: u32, threshold: &mut f32) -> u32
     ensures { λ n. ⌜ PromisedOrderedThreshold kind x y (now (threshold .entry)) (n, now (threshold .exit)) ⌝ }
@@ -255,7 +255,7 @@ pub extern "C" fn badge_ordered_bracket(
     }
 }
 
-// What is picked of two colours at column x and row y; 1, 3 and 9. It is asked with colours: positions play no part.
+// What is picked of two colours at column x and row y; 1, 15, 3 and 9. It is asked with colours: positions play no part.
 #[no_mangle]
 pub extern "C" fn badge_pick(
     dark: &[u8],
@@ -270,6 +270,9 @@ pub extern "C" fn badge_pick(
 {
     if !patterns::is_kind(kind) {
         return 1;
+    }
+    if patterns::is_retired(kind) {
+        return 15;
     }
     if !((dark.len() == 4) & ((light.len() == 4) & (chosen.len() == 4))) {
         return 3;
@@ -327,7 +330,7 @@ pub extern "C" fn badge_candidate_colors_in(
     }
 }
 
-// Quantizes a picture to a palette; 1, 2, 3 and 4.
+// Quantizes a picture to a palette; 1, 15, 2, 3 and 4.
 #[no_mangle]
 pub extern "C" fn badge_quantize_pixels(
     shift: u32,
@@ -374,7 +377,7 @@ fn color_zero(has_zero: u32, r: u8, g: u8, b: u8, a: u8) -> ColorZero
     ColorZero::Is(ReducedColor::new(r, g, b, a))
 }
 
-// Dithers a picture to a mode and judges its tiles; 1, 2, 3, 5, 7 and 8. After 8 there are a count and a tile, too.
+// Dithers a picture to a mode and judges its tiles; 1, 15, 2, 3, 5, 7 and 8. After 8 there are a count and a tile, too.
 #[no_mangle]
 pub extern "C" fn badge_dither_to_mode(
     shift: u32,

@@ -1,5 +1,5 @@
 -- The answers of the flat calls and of `pick`: what has the promise, from the number found and what the case holds; an answer that holds a result is
--- that of an accepted list; its number is the lowest that applies; the position answered is the first of the least distances (`flat-least`), and the
+-- that of an accepted list; its number is the lowest that applies, of `pick` the first; the position answered is the first of the least distances (`flat-least`), and the
 -- two answered are what document 01 says of them (`flat-second`), which no other two are (`flat-second-only`). Assumes nothing.
 use mathlib.Core.Path.{_≡_, refl, sym, ap, _∙_, subst}
 use mathlib.Core.List.{List}
@@ -10,8 +10,8 @@ use lib.ListN.{length, getD}
 use lib.Ieee.{Float, lt}
 use Rattle.lists.specs.Least.{Least}
 use Rattle.lists.proofs.Bools.{holds}
-use Rattle.replies.specs.Replies.{firstReply, Lowest}
-use Rattle.replies.proofs.AnswerLaws.{answered, answers-lowest, value-refused, value-granted}
+use Rattle.replies.specs.Replies.{firstReply, FirstReply, Lowest}
+use Rattle.replies.proofs.AnswerLaws.{answered, answers-first, answers-lowest, value-refused, value-granted}
 use Rattle.color.specs.declared.NormalizedColor.{NormalizedColor}
 use Rattle.color.specs.declared.Oklab.{Oklab}
 use Rattle.color.specs.Color.{rgbaAt}
@@ -162,8 +162,8 @@ pub pick-given : (b : Bracket) (kind x y : ℕ) {r : Choice} → PickedAt b kind
 pick-given b kind x y {r} a =
     let s : picked.Of r ≡ pickAnswer b kind x y 0 = answered _ _ _ a ∙ ap (pickAnswer b kind x y) (sym (a .number)) in cc
 
-pub pick-lowest : (b : Bracket) (kind x y : ℕ) {r : Picked} → PickedAt b kind x y r → Lowest (thresholdReplies kind) (numberOfPicked r)
-pick-lowest b kind x y a = answers-lowest _ _ _ tt a
+pub pick-first : (b : Bracket) (kind x y : ℕ) {r : Picked} → PickedAt b kind x y r → FirstReply (thresholdReplies kind) (numberOfPicked r)
+pick-first b kind x y a = answers-first _ _ _ tt a
 
 module _ (b : Bracket) (kind x y : ℕ) {t : Thresholded} (a : OrderedThresholdAnswered kind x y t) where
   -- what the threshold is with the number of the replies, which are its own

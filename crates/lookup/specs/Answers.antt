@@ -1,7 +1,7 @@
 -- What the flat calls and `pick` answer: document 01's number of each case, when each number applies, what is answered with it, and the promise of each
 -- call, which its contract and its theorem of one result share (proofs/Unique). Definitions only.
 -- Written from document 01, "Bounds and replies": "The lowest number that applies is given", "A refusal returns no colour."; "Which places take which form":
--- "Where an answer is an enum, a definition tells you this paper's number and values for each of its cases."
+-- "Where an answer is an enum, a definition tells you this paper's number and values for each of its cases."; and document 02, Ask 9, for `pick`'s 15.
 use Prim.Native.Nat.{ℕ}
 use mathlib.Core.List.{List}
 use lib.Ieee.{Float}

@@ -143,8 +143,8 @@ pub fn pick_at(bracket: Bracket, threshold: f32) -> Choice
     }
 }
 
-// The colour for column x and row y, and its position; 1 for a kind above 10, 9 for one that has no matrix, also where the
-// colours are equal.
+// The colour for column x and row y, and its position; 1 for a kind above 10, 15 for a retired one, 9 for one that has no
+// matrix, also where the colours are equal.
 pub fn pick(bracket: Bracket, kind: u32, x: u32, y: u32) -> Picked
     ensures { λ r. ⌜ PickedAt bracket kind x y r ⌝ }
 {

@@ -1,5 +1,5 @@
--- The kinds by number: they are 0 to 10, the ordered kinds are 1 to 8, Atkinson and Floyd-Steinberg are 9 and 10, and there is none above. What
--- holds of the ways of the eleven kinds, by a computed test, and where there is none, holds of every number. Assumes nothing.
+-- The kinds by number: they are 0 to 10, the retired ones 5 and 6, the ordered ones 1 to 4, 7 and 8, Atkinson and Floyd-Steinberg are 9 and 10, and
+-- there is none above. What holds of the ways of the eleven kinds, by a computed test, and where there is none, holds of every number. Assumes nothing.
 use mathlib.Core.Path.{_≡_, refl, ap, _∙_}
 use mathlib.Core.Bool.{Bool, true, false, not, _&&_, _||_}
 use mathlib.Core.List.{List, [], _∷_, map}
@@ -12,8 +12,8 @@ use lib.ListN.{length, getD, List·getD-eq-default}
 use Rattle.patterns.specs.declared.Dither.{Dither}
 use Rattle.patterns.specs.declared.Dither.the-variants.{Off}
 use Rattle.patterns.specs.declared.Kind.the-variants.{Known, Unknown}
-use Rattle.patterns.specs.Kinds.{kinds, kindOf, Way, plain, ordered, diffused, none, wayOf}
-use Rattle.patterns.specs.Kinds.{isWay, hasMatrix, hasKernel, isKind, isOrdered, isDiffusion}
+use Rattle.patterns.specs.Kinds.{kinds, kindOf, Way, plain, ordered, diffused, retired, none, wayOf}
+use Rattle.patterns.specs.Kinds.{isWay, isGone, hasMatrix, hasKernel, isKind, isRetired, isOrdered, isDiffusion}
 use Rattle.lists.proofs.Computed.{from, agree}
 
 named : (l : List Dither) (k : ℕ) → k < length l → Known (getD l k Off) ≡ getD (map Known l) k Unknown
@@ -50,9 +50,15 @@ pub kind-is : (k : ℕ) → isKind k ≡ leb k 10
 unfolding isKind wayOf kindOf
 kind-is k = by-number isWay (λ k. leb k 10) refl (λ k h. simp (lt-leb k 10 h)) k
 
-pub ordered-is : (k : ℕ) → isOrdered k ≡ (leb 1 k && leb k 8)
+pub retired-is : (k : ℕ) → isRetired k ≡ (eqb k 5 || eqb k 6)
+unfolding isRetired wayOf kindOf
+retired-is k = by-number isGone (λ k. eqb k 5 || eqb k 6) refl (λ k h. simp (ne-eqb k 5 (λ e. omega arith), ne-eqb k 6 (λ e. omega arith))) k
+
+pub ordered-is : (k : ℕ) → isOrdered k ≡ ((leb 1 k && leb k 4) || (eqb k 7 || eqb k 8))
 unfolding isOrdered wayOf kindOf
-ordered-is k = by-number hasMatrix (λ k. leb 1 k && leb k 8) refl (λ k h. simp (le-leb 1 k (omega arith), lt-leb k 8 (omega arith))) k
+ordered-is k =
+    by-number hasMatrix (λ k. (leb 1 k && leb k 4) || (eqb k 7 || eqb k 8)) refl
+    (λ k h. simp (le-leb 1 k (omega arith), lt-leb k 4 (omega arith), ne-eqb k 7 (λ e. omega arith), ne-eqb k 8 (λ e. omega arith))) k
 
 pub diffusion-is : (k : ℕ) → isDiffusion k ≡ (eqb k 9 || eqb k 10)
 unfolding isDiffusion wayOf kindOf
@@ -67,4 +73,5 @@ ordered-way k h = go (wayOf k) h
     go plain h = absurd h
     go (ordered m n) h = (m, n, refl)
     go (diffused k l) h = absurd h
+    go retired h = absurd h
     go none h = absurd h

@@ -2,7 +2,7 @@
 -- between 0 and 1; and that only the remainders of x and y by the matrix size count. What holds of each matrix is one computed test over the
 -- table. Assumes nothing.
 use mathlib.Core.Path.{_≡_, refl, sym, ap, _∙_, subst}
-use mathlib.Core.Bool.{Bool, true, false, cond, not, _&&_}
+use mathlib.Core.Bool.{Bool, true, false, cond, not, _&&_, _||_}
 use mathlib.Core.List.{List, [], _∷_}
 use Prim.Native.Nat.{ℕ, zero, suc, _+_, _*_, _%_, _^_, _<_}
 use native.Mathlib.Nat.{mul-comm, mul-one}
@@ -13,8 +13,8 @@ use lib.ListN.{length, getD}
 use lib.Ieee.{Float, nan, inf, fin, up, down, binary32, round, add, div, ofInt, ofBits, lt}
 use lib.Ieee.Exact.{HasValue}
 use lib.Ieee.Fits.{and-l, and-r}
-use Rattle.replies.specs.Replies.{_if_, firstReply, Lowest}
-use Rattle.replies.proofs.AnswerLaws.{answers-lowest, value-number, value-promised}
+use Rattle.replies.specs.Replies.{_if_, firstReply, FirstReply}
+use Rattle.replies.proofs.AnswerLaws.{answers-first, value-number, value-promised}
 use Rattle.lists.proofs.Computed.{all, all-at}
 use Rattle.floats.specs.Over.{over, wholef}
 use Rattle.floats.specs.Bounds.{Upto}
@@ -26,10 +26,10 @@ use Rattle.floats.proofs.Within.{round-upto}
 use Rattle.patterns.specs.declared.Kind.{Kind}
 use Rattle.patterns.specs.declared.Thresholded.{Thresholded}
 use Rattle.patterns.specs.declared.Thresholded.the-variants.{At, Refused}
-use Rattle.patterns.specs.Kinds.{kindOf, Way, plain, ordered, diffused, none, wayIn, wayOf, isWay, hasMatrix, isKind, isOrdered}
+use Rattle.patterns.specs.Kinds.{kindOf, Way, plain, ordered, diffused, retired, none, wayIn, wayOf, isWay, isGone, hasMatrix, isKind, isRetired, isOrdered}
 use Rattle.patterns.specs.Thresholds.{thresholdFrom, entry, thresholdIn, thresholdAt}
 use Rattle.patterns.specs.Thresholds.{numberOf, thresholdReplies, thresholdAnswer, OrderedThresholdAnswered, thresholdOf}
-use Rattle.patterns.proofs.Numbers.{of-all, kind-is, ordered-is, ordered-way}
+use Rattle.patterns.proofs.Numbers.{of-all, kind-is, retired-is, ordered-is, ordered-way}
 
 -- ---- the literals of the code
 pub half : ofBits binary32 0x3f00_0000 ≡ over 2 (pos 1)
@@ -53,37 +53,41 @@ module _ (k x y : ℕ) where
   pub threshold-promised : {r : Thresholded} → r ≡ thresholdOf k x y → OrderedThresholdAnswered k x y r
   threshold-promised e = value-promised numberOf (thresholdReplies k) _ Refused refl (λ n. refl) e
 
-  -- 1 exactly above 10, 9 exactly for 0, 9 and 10
-  pub number-is : numberOf (thresholdOf k x y) ≡ cond (leb k 10) (cond (leb 1 k && leb k 8) 0 9) 1
+  -- 1 exactly above 10, 15 exactly for 5 and 6, 9 exactly for 0, 9 and 10
+  pub number-is : numberOf (thresholdOf k x y) ≡ cond (leb k 10) (cond (eqb k 5 || eqb k 6) 15 (cond ((leb 1 k && leb k 4) || (eqb k 7 || eqb k 8)) 0 9)) 1
   number-is =
       value-number numberOf (thresholdReplies k) _ Refused refl (λ n. refl) (firstReply (thresholdReplies k))
-      ∙ (λ i. firstReply ((1 if not (kind-is k i)) ∷ (9 if not (ordered-is k i)) ∷ []))
-      ∙ other (leb k 10) (leb 1 k && leb k 8)
+      ∙ (λ i. firstReply ((1 if not (kind-is k i)) ∷ (15 if retired-is k i) ∷ (9 if not (ordered-is k i)) ∷ []))
+      ∙ other (leb k 10) (eqb k 5 || eqb k 6) ((leb 1 k && leb k 4) || (eqb k 7 || eqb k 8))
     where
-      other : (s t : Bool) → _≡_ {A = ℕ} (cond (not s) 1 (cond (not t) 9 0)) (cond s (cond t 0 9) 1)
-      other true true = refl
-      other true false = refl
-      other false t = refl
+      other : (s t u : Bool) → _≡_ {A = ℕ} (cond (not s) 1 (cond t 15 (cond (not u) 9 0))) (cond s (cond t 15 (cond u 0 9)) 1)
+      other true true u = refl
+      other true false true = refl
+      other true false false = refl
+      other false t u = refl
 
--- and it is the lowest that applies
-pub threshold-lowest : (k x y : ℕ) {r : Thresholded} → OrderedThresholdAnswered k x y r → Lowest (thresholdReplies k) (numberOf r)
-threshold-lowest k x y p = answers-lowest _ _ _ tt p
+-- and it is the first that applies
+pub threshold-first : (k x y : ℕ) {r : Thresholded} → OrderedThresholdAnswered k x y r → FirstReply (thresholdReplies k) (numberOf r)
+threshold-first k x y p = answers-first _ _ _ tt p
 
--- the answer by how a kind dithers: the threshold, 9 where there is no matrix, 1 where there is no kind
+-- the answer by how a kind dithers: the threshold, 9 where there is no matrix, 15 where it is retired, 1 where there is no kind
 abbrev pub answerIn : Way → ℕ → ℕ → Thresholded
 answerIn plain x y = Refused 9
 answerIn (ordered m n) x y = At (thresholdIn (ordered m n) x y)
 answerIn (diffused k h) x y = Refused 9
+answerIn retired x y = Refused 15
 answerIn none x y = Refused 1
 
 answer-by : (k x y : ℕ) → answerIn (wayOf k) x y ≡ thresholdOf k x y
-unfolding isKind isOrdered thresholdAt
+unfolding isKind isRetired isOrdered thresholdAt
 answer-by k x y = go (wayOf k) refl
   where
-    go : (w : Way) → w ≡ wayOf k → answerIn w x y ≡ thresholdAnswer k x y (firstReply ((1 if not (isWay w)) ∷ (9 if not (hasMatrix w)) ∷ []))
+    go : (w : Way) → w ≡ wayOf k
+        → answerIn w x y ≡ thresholdAnswer k x y (firstReply ((1 if not (isWay w)) ∷ (15 if isGone w) ∷ (9 if not (hasMatrix w)) ∷ []))
     go plain e = refl
     go (ordered m n) e = ap (λ (w : Way). At (thresholdIn w x y)) e
     go (diffused l h) e = refl
+    go retired e = refl
     go none e = refl
 
 -- by what the number stands for
@@ -100,6 +104,7 @@ ordered-answer k x y h = sym (answer-by k x y) ∙ go (wayOf k) h
     go plain h = absurd h
     go (ordered m n) h = refl
     go (diffused k l) h = absurd h
+    go retired h = absurd h
     go none h = absurd h
 
 -- ---- only the remainders by the matrix size count
@@ -107,6 +112,7 @@ abbrev pub sizeIn : Way → ℕ
 sizeIn plain = 0
 sizeIn (ordered m n) = length m
 sizeIn (diffused k h) = 0
+sizeIn retired = 0
 sizeIn none = 0
 
 pub repeats : (k x y x' y' : ℕ) → x % sizeIn (wayOf k) ≡ x' % sizeIn (wayOf k) → y % sizeIn (wayOf k) ≡ y' % sizeIn (wayOf k)
@@ -117,6 +123,7 @@ repeats k x y x' y' p q = sym (answer-by k x y) ∙ go (wayOf k) p q ∙ answer-
     go plain p q = refl
     go (ordered m n) p q = λ i. At (thresholdFrom (getD (getD m (q i) []) (p i) 0) (wholef (pos n)))
     go (diffused k h) p q = refl
+    go retired p q = refl
     go none p q = refl
 
 -- ---- the value: (2 entry + 1) / 2n
@@ -142,6 +149,7 @@ abbrev pub square : Way → Bool
 square plain = true
 square (ordered m n) = all (λ (r : List ℕ). eqb (length r) (length m)) m
 square (diffused k h) = true
+square retired = true
 square none = true
 
 pub squares : (k : ℕ) → T (square (wayOf k))
@@ -172,6 +180,7 @@ good : Way → Bool
 good plain = true
 good (ordered m n) = (ltb 0 n && ltb n 256) && (strict n 0 && all (all (strict n)) m)
 good (diffused k h) = true
+good retired = true
 good none = true
 
 goods : (k : ℕ) → T (good (wayOf k))

@@ -1,5 +1,6 @@
--- The eight threshold matrices, rows from the top. Definitions only.
--- Written from document 01, "The eight threshold matrices are copied from source document 000": the constants of src/dither.rs.
+-- The threshold matrices, rows from the top. Definitions only.
+-- Written from document 01, "The eight threshold matrices are copied from source document 000": the constants of src/dither.rs, without those of the
+-- stipples, which document 02 retires (Ask 9).
 use Prim.Native.Nat.{ℕ}
 use mathlib.Core.List.{List, [], _∷_}
 
@@ -27,14 +28,6 @@ bayer8x8 =
 -- CHECKER_MATRIX
 abbrev pub checker : List (List ℕ)
 checker = (0 ∷ 1 ∷ []) ∷ (1 ∷ 0 ∷ []) ∷ []
-
--- STIPPLE_V_MATRIX
-abbrev pub stippleV : List (List ℕ)
-stippleV = (3 ∷ 0 ∷ []) ∷ (2 ∷ 1 ∷ []) ∷ []
-
--- STIPPLE_H_MATRIX
-abbrev pub stippleH : List (List ℕ)
-stippleH = (3 ∷ 2 ∷ []) ∷ (0 ∷ 1 ∷ []) ∷ []
 
 -- LINE_V_MATRIX
 abbrev pub lineV : List (List ℕ)

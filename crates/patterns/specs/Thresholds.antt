@@ -1,6 +1,7 @@
 -- The threshold of a place, and what `ordered_threshold` promises. Definitions only.
 -- Written from document 01, "Choosing colours": "Threshold = (entry + 0.5) / n [..]; row y, column x, both reduced to the matrix size";
--- each operation is rounded to an f32, in the Rust's order. Refusals 1 and 9 are those of "Bounds and replies".
+-- each operation is rounded to an f32, in the Rust's order. Refusals 1 and 9 are those of "Bounds and replies"; 15 is document 02's, Ask 9, "directly
+-- after 1".
 use Prim.Native.Nat.{ℕ, _%_}
 use mathlib.Core.Bool.{not}
 use mathlib.Core.List.{List, [], _∷_}
@@ -12,7 +13,7 @@ use Rattle.replies.specs.Answers.{Answers, valueOr}
 use Rattle.floats.specs.Over.{over, wholef}
 use Rattle.patterns.specs.declared.Thresholded.{Thresholded}
 use Rattle.patterns.specs.declared.Thresholded.the-variants.{At, Refused}
-use Rattle.patterns.specs.Kinds.{Way, plain, ordered, diffused, none, wayOf, isKind, isOrdered}
+use Rattle.patterns.specs.Kinds.{Way, plain, ordered, diffused, retired, none, wayOf, isKind, isRetired, isOrdered}
 
 -- (entry + 0.5) / n
 unfoldable pub thresholdFrom : ℕ → Float → Float
@@ -31,6 +32,7 @@ abbrev pub thresholdIn : Way → ℕ → ℕ → Float
 thresholdIn plain x y = nan
 thresholdIn (ordered m n) x y = thresholdFrom (entry m x y) (wholef (pos n))
 thresholdIn (diffused k h) x y = nan
+thresholdIn retired x y = nan
 thresholdIn none x y = nan
 
 -- that of the kind with a number
@@ -43,9 +45,10 @@ abbrev pub numberOf : Thresholded → ℕ
 numberOf (At t) = 0
 numberOf (Refused n) = n
 
--- the numbers, and when each applies: 1 where there is no such kind, 9 where the kind has no matrix (which these are: proofs/Thresholds)
+-- the numbers, and when each applies: 1 where there is no such kind, 15 where it is retired, 9 where it has no matrix (which these are:
+-- proofs/Thresholds)
 abbrev pub thresholdReplies : (kind : ℕ) → List Reply
-thresholdReplies kind = (1 if not (isKind kind)) ∷ (9 if not (isOrdered kind)) ∷ []
+thresholdReplies kind = (1 if not (isKind kind)) ∷ (15 if isRetired kind) ∷ (9 if not (isOrdered kind)) ∷ []
 
 -- what is answered with a number: the threshold with 0, and else the number alone
 abbrev pub thresholdAnswer : (kind x y : ℕ) → ℕ → Thresholded

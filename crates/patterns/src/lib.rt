@@ -1,12 +1,12 @@
-// Thresholds and kernels: the kinds of dithering by number, the eight threshold matrices, and the two kernels of error
-// diffusion. The kinds, the matrices and `ordered_threshold` are named as in src/dither.rs, and the kinds and each
-// kernel's targets stand in its order. There a kernel is one list of tuples and a kind has no number; here a kernel is
-// three arrays side by side, and all that goes by a kind's number is added.
+// Thresholds and kernels: the kinds of dithering by number, the threshold matrices, and the two kernels of error diffusion.
+// The kinds, the matrices and `ordered_threshold` are named as in src/dither.rs, and the kinds and each kernel's targets
+// stand in its order. There a kernel is one list of tuples and a kind has no number; here a kernel is three arrays side by
+// side, and all that goes by a kind's number is added. The stipples are retired: their numbers are theirs, and no more.
 ghost use mathlib.Core.Path.{_≡_};
 ghost use Prim.Native.Nat.{_≤_};
 ghost use lib.Dec.{T};
 ghost use Rattle.patterns.specs.Kernel.{Arrays, atkinson, floydSteinberg};
-ghost use Rattle.patterns.specs.Kinds.{kindOf, isKind, isOrdered, isDiffusion, cellsNeeded};
+ghost use Rattle.patterns.specs.Kinds.{kindOf, isKind, isRetired, isOrdered, isDiffusion, cellsNeeded};
 ghost use Rattle.patterns.specs.Thresholds.{thresholdFrom, entryIn, thresholdAt, OrderedThresholdAnswered};
 
 // A kind of dithering.
@@ -21,9 +21,9 @@ pub enum Dither {
     Bayer8x8,
     // Checkerboard dithering.
     Checker,
-    // Vertical stippled dithering.
+    // Vertical stippled dithering: retired.
     StippleV,
-    // Horizontal stippled dithering.
+    // Horizontal stippled dithering: retired.
     StippleH,
     // Vertical line dithering.
     LineV,
@@ -61,18 +61,25 @@ pub fn dither_of(kind: u32) -> Kind
     }
 }
 
-// Whether there is a kind with this number.
+// Whether there is a kind with this number, retired or not.
 pub fn is_kind(kind: u32) -> bool
     ensures { λ r. ⌜ r ≡ isKind kind ⌝ }
 {
     kind <= 10
 }
 
-// Whether a kind dithers by a matrix: from Bayer2x2 to LineH.
+// Whether a kind is retired: StippleV or StippleH.
+pub fn is_retired(kind: u32) -> bool
+    ensures { λ r. ⌜ r ≡ isRetired kind ⌝ }
+{
+    (kind == 5) | (kind == 6)
+}
+
+// Whether a kind dithers by a matrix: from Bayer2x2 to Checker, LineV or LineH.
 pub fn is_ordered(kind: u32) -> bool
     ensures { λ r. ⌜ r ≡ isOrdered kind ⌝ }
 {
-    (1 <= kind) & (kind <= 8)
+    ((1 <= kind) & (kind <= 4)) | ((kind == 7) | (kind == 8))
 }
 
 // Whether a kind diffuses error: Atkinson or FloydSteinberg.
@@ -118,10 +125,6 @@ const BAYER_8X8_MATRIX: [[u8; 8]; 8] = [
 
 const CHECKER_MATRIX: [[u8; 2]; 2] = [[0, 1], [1, 0]];
 
-const STIPPLE_V_MATRIX: [[u8; 2]; 2] = [[3, 0], [2, 1]];
-
-const STIPPLE_H_MATRIX: [[u8; 2]; 2] = [[3, 2], [0, 1]];
-
 const LINE_V_MATRIX: [[u8; 2]; 2] = [[1, 0], [1, 0]];
 
 const LINE_H_MATRIX: [[u8; 2]; 2] = [[1, 1], [0, 0]];
@@ -158,7 +161,8 @@ pub enum Thresholded {
     Refused(u8),
 }
 
-// The threshold of a kind at column x and row y; 1 for a number above 10; 9 for a kind that has no matrix.
+// The threshold of a kind at column x and row y; 1 for a number above 10; 15 for a retired kind; 9 for one that has no
+// matrix.
 pub fn ordered_threshold(kind: u32, x: u32, y: u32) -> Thresholded
     ensures { λ r. ⌜ OrderedThresholdAnswered kind x y r ⌝ }
 {
@@ -170,8 +174,8 @@ pub fn ordered_threshold(kind: u32, x: u32, y: u32) -> Thresholded
         Dither::Bayer4x4 => Thresholded::At(threshold_4x4(BAYER_4X4_MATRIX, 16.0, x, y)),
         Dither::Bayer8x8 => Thresholded::At(threshold_8x8(BAYER_8X8_MATRIX, 64.0, x, y)),
         Dither::Checker => Thresholded::At(threshold_2x2(CHECKER_MATRIX, 2.0, x, y)),
-        Dither::StippleV => Thresholded::At(threshold_2x2(STIPPLE_V_MATRIX, 4.0, x, y)),
-        Dither::StippleH => Thresholded::At(threshold_2x2(STIPPLE_H_MATRIX, 4.0, x, y)),
+        Dither::StippleV => Thresholded::Refused(15),
+        Dither::StippleH => Thresholded::Refused(15),
         Dither::LineV => Thresholded::At(threshold_2x2(LINE_V_MATRIX, 2.0, x, y)),
         Dither::LineH => Thresholded::At(threshold_2x2(LINE_H_MATRIX, 2.0, x, y)),
         Dither::Off | Dither::Atkinson | Dither::FloydSteinberg => Thresholded::Refused(9),

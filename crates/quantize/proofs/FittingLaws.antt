@@ -1,4 +1,4 @@
--- What the number says: it is the lowest that applies (`number-is`); the answer with a number has it (`own-number`); where none applies, all lengths fit
+-- What the number says: it is the first that applies (`number-is`); the answer with a number has it (`own-number`); where none applies, all lengths fit
 -- (`accepted`). Assumes nothing.
 use mathlib.Core.Path.{_≡_, refl, sym, _∙_}
 use mathlib.Core.Bool.{false, not}
@@ -9,9 +9,9 @@ use borrow.Author.Tests.{ltb-false, eqb-false, not-false}
 use lib.Dec.{eqb}
 use lib.Ieee.{Float}
 use Rattle.lists.proofs.Bools.{or-split, equals}
-use Rattle.replies.specs.Replies.{Lowest, firstReply}
+use Rattle.replies.specs.Replies.{FirstReply, firstReply}
 use Rattle.replies.proofs.ReplyLaws.{reply-none}
-use Rattle.replies.proofs.AnswerLaws.{answers-lowest, value-number}
+use Rattle.replies.proofs.AnswerLaws.{answers-first, value-number}
 use Rattle.picture.specs.Bounds.{lentWrong}
 use Rattle.picture.proofs.BoundLaws.{sized, lent-so}
 use Rattle.patterns.specs.Kinds.{isKind, cellsNeeded}
@@ -22,8 +22,8 @@ use Rattle.quantize.specs.Quantize.{Commission, size, lengthsWrong, entr
 use Rattle.quantize.specs.Steps.{Fitting}
 
 pub number-is : {q : Commission} {indices₀ out₀ : List ℕ} {cells₀ : List Float} {r : Quantization} {indices out : List ℕ} {cells : List Float}
-    → Quantized q indices₀ out₀ cells₀ r indices out cells → Lowest (replies q indices₀ out₀ cells₀) (numberOf r)
-number-is p = answers-lowest _ _ _ tt (p .answer)
+    → Quantized q indices₀ out₀ cells₀ r indices out cells → FirstReply (replies q indices₀ out₀ cells₀) (numberOf r)
+number-is p = answers-first _ _ _ tt (p .answer)
 
 -- the answer with a number has it
 pub own-number : (n : ℕ) → numberOf (answerOf n) ≡ n
@@ -39,13 +39,13 @@ accepted q s e =
     let n = size q in
     let none = reply-none (checks (q .shift) (q .kind) (q .width) (q .height) s) tt e in
     let mode = or-split (not (isKind (q .kind))) _ (none .0) in
-    let bounds = sized (q .width) (q .height) (none .1 .0) in
-    let l1 = or-split (lentWrong (s .reduction) (s .scale) (s .pixels) n) _ (none .1 .1 .0) in
+    let bounds = sized (q .width) (q .height) (none .1 .1 .0) in
+    let l1 = or-split (lentWrong (s .reduction) (s .scale) (s .pixels) n) _ (none .1 .1 .1 .0) in
     let l2 = or-split (not (eqb (s .palette % 4) 0)) _ (l1 .1) in
     let l3 = or-split (not (eqb (s .indices) n)) _ (l2 .1) in
     let l4 = or-split (not (eqb (s .out) (4 * n))) _ (l3 .1) in
     let lent = lent-so (s .reduction) (s .scale) (s .pixels) n (l1 .0) in
-    let p = or-split (eqb (s .palette / 4) 0) _ (none .1 .1 .1 .0) in
+    let p = or-split (eqb (s .palette / 4) 0) _ (none .1 .1 .1 .1 .0) in
     record {
       shift = not-false _ (mode .1);
       wide = bounds .0;

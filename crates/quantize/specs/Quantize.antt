@@ -1,6 +1,7 @@
 -- What `quantize_pixels` answers, and what its three lent buffers hold afterwards. Definitions only.
 -- Written from document 01, "Choosing colours" ("A palette index is the first entry equal to the chosen reduced colour. Transparent pixels get
--- index 0 and `TRANSPARENT`", "max is the palette's length in `quantize_pixels`", "`quantize_pixels` uses origin 0") and "Bounds and replies".
+-- index 0 and `TRANSPARENT`", "max is the palette's length in `quantize_pixels`", "`quantize_pixels` uses origin 0") and "Bounds and replies"; and
+-- from document 02, Ask 9: "15 for kinds 5 and 6 in every call that takes a kind, directly after 1".
 use Prim.Native.Nat.{ℕ, _*_, _/_, _%_, _<_}
 use mathlib.Core.Path.{_≡_}
 use mathlib.Core.Bool.{Bool, cond, not, _||_}
@@ -17,7 +18,7 @@ use Rattle.color.specs.Color.{reducedAt, sameReduced}
 use Rattle.picture.specs.Bounds.{sizeWrong, lentWrong}
 use Rattle.picture.specs.Pixels.{isSeen}
 use Rattle.conversion.specs.Lists.{listOklab}
-use Rattle.patterns.specs.Kinds.{isKind, cellsNeeded}
+use Rattle.patterns.specs.Kinds.{isKind, isRetired, cellsNeeded}
 use Rattle.mixing.specs.Widths.{isShift, widthOf}
 use Rattle.drawing.specs.declared.Ditherer.{Ditherer}
 use Rattle.drawing.specs.declared.ColorZero.the-variants.{Absent}
@@ -121,10 +122,11 @@ lengthsWrong kind n s =
 unfoldable pub entriesWrong : ℕ → Bool
 entriesWrong n = eqb n 0 || ltb 256 n
 
--- the rows of document 01's table that this call can answer with
+-- the numbers that this call can answer with, in their order
 abbrev pub checks : (shift kind width height : ℕ) → Lengths → List Reply
 checks shift kind width height s =
     1 if (not (isKind kind) || not (isShift shift))
+    ∷ 15 if isRetired kind
     ∷ 2 if sizeWrong width height
     ∷ 3 if lengthsWrong kind (width * height) s
     ∷ 4 if entriesWrong (s .palette / 4)

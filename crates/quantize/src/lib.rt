@@ -49,14 +49,20 @@ fn entries_wrong(count: usize) -> bool
     (count == 0) | (256 < count)
 }
 
-// The number of the answer: 0 where the picture is accepted, else the lowest that applies.
+// The number of the answer: 0 where the picture is accepted, else the first that applies.
 fn refusal(shift: u32, kind: u32, width: u32, height: u32, s: Lengths) -> u8
     ensures { λ n. ⌜ n ≡ firstReply (checks shift kind width height s) ⌝ }
 {
-    if !patterns::is_kind(kind) | !mixing::is_shift(shift) {
+    let mode_wrong = !patterns::is_kind(kind) | !mixing::is_shift(shift);
+    let retired = patterns::is_retired(kind);
+    let size_wrong = picture::size_wrong(width, height);
+    if mode_wrong {
         return 1;
     }
-    if picture::size_wrong(width, height) {
+    if retired {
+        return 15;
+    }
+    if size_wrong {
         return 2;
     }
     let size = width as usize * height as usize;

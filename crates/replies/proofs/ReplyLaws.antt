@@ -1,11 +1,11 @@
 -- `firstReply` is the number of the first reply that applies, and nothing else is; it is 0 exactly where none applies; replies behind one that applies
--- change nothing; it is at most any bound of the numbers. `after`: the result, or what was there. Assumes nothing.
+-- change nothing; a number that no reply has is not given. `after`: the result, or what was there. Assumes nothing.
 use mathlib.Core.Path.{_≡_, refl, sym, ap, _∙_}
 use mathlib.Core.Bool.{Bool, true, false, cond, not, _&&_}
 use mathlib.Core.List.{List, [], _∷_, _++_}
-use Prim.Native.Nat.{ℕ, zero, suc, _≤_}
+use Prim.Native.Nat.{ℕ, zero, suc}
 use native.Mathlib.Omega.{arith}
-use lib.Dec.{T, eqb, leb, leb→le, T-not, eqb-refl}
+use lib.Dec.{T, eqb, T-not, eqb-refl}
 use lib.Ieee.Fits.{and-l, and-r}
 use Rattle.replies.specs.Replies.{Reply, firstReply, NoneApplies, numbered, FirstReply, after}
 
@@ -37,19 +37,37 @@ reply-front (x ∷ xs) ys n = go (x .applies) n (reply-front xs ys)
     go true n later = refl
     go false n later = later n
 
--- no number exceeds n: for replies that are written out, a computed test
-abbrev pub upto : ℕ → List Reply → Bool
-upto n [] = true
-upto n (x ∷ xs) = leb (x .number) n && upto n xs
+-- nor do replies of which none applies
+pub reply-behind : (xs ys : List Reply) → NoneApplies ys → firstReply (xs ++ ys) ≡ firstReply xs
+reply-behind [] ys a = reply-zero ys a
+reply-behind (x ∷ xs) ys a = ap (cond (x .applies) (x .number)) (reply-behind xs ys a)
 
-pub reply-upto : (n : ℕ) (xs : List Reply) → T (upto n xs) → firstReply xs ≤ n
-reply-upto n [] h = omega arith
-reply-upto n (x ∷ xs) h =
-    go (x .applies) (leb→le (x .number) n (and-l (leb (x .number) n) (upto n xs) h)) (reply-upto n xs (and-r (leb (x .number) n) (upto n xs) h))
+-- none applies of two lists, one behind the other
+pub none-both : (xs ys : List Reply) → NoneApplies xs → NoneApplies ys → NoneApplies (xs ++ ys)
+none-both [] ys a b = b
+none-both (x ∷ xs) ys a b = (a .0, none-both xs ys (a .1) b)
+
+-- no reply has the number n, nor is it 0: for replies that are written out, a computed test
+abbrev pub lacks : ℕ → List Reply → Bool
+lacks n [] = not (eqb n 0)
+lacks n (x ∷ xs) = not (eqb (x .number) n) && lacks n xs
+
+-- such a number is not given
+pub reply-other : (n : ℕ) (xs : List Reply) → T (lacks n xs) → firstReply xs ≡ n → ⊥
+reply-other n [] h e = T-not (eqb n 0) h (rw (sym e) (eqb-refl 0))
+reply-other n (x ∷ xs) h e = go (x .applies) (reply-other n xs (and-r (not (eqb (x .number) n)) (lacks n xs) h)) e
   where
-    go : (t : Bool) → x .number ≤ n → firstReply xs ≤ n → cond t (x .number) (firstReply xs) ≤ n
-    go true a later = a
-    go false a later = later
+    go : (t : Bool) → (firstReply xs ≡ n → ⊥) → cond t (x .number) (firstReply xs) ≡ n → ⊥
+    go true later e = T-not (eqb (x .number) n) (and-l (not (eqb (x .number) n)) (lacks n xs) h) (rw e (eqb-refl n))
+    go false later e = later e
+
+-- a number that the last reply alone has is given only where that applies
+pub reply-last : (xs : List Reply) (x : Reply) → T (lacks (x .number) xs) → firstReply (xs ++ x ∷ []) ≡ x .number → x .applies ≡ true
+reply-last xs x h e = go (x .applies) refl
+  where
+    go : (t : Bool) → x .applies ≡ t → x .applies ≡ true
+    go true a = a
+    go false a = absurd (reply-other (x .number) xs h (sym (reply-behind xs (x ∷ []) (a, tt)) ∙ e))
 
 -- ---- what it is
 first-given : (xs : List Reply) → (firstReply xs ≡ 0 → ⊥)

@@ -7,7 +7,7 @@
 use std::process::{Command, ExitCode};
 use std::{env, fs, io, process};
 
-use oracle::jobs::{Files, Job, job};
+use oracle::jobs::{Files, Job, SAID_OF_RETIRED, job};
 use oracle::words::{number_after, word_after};
 
 /// The run ends once this many differences are found.
@@ -18,18 +18,21 @@ const ENOUGH: usize = 5;
 struct Report {
     draws: u64,
     quantizes: u64,
-    refusals: u64,
+    /// Refusals with 8, and with 15.
+    overfull: u64,
+    retired: u64,
     found: Vec<String>,
 }
 
 impl Report {
     fn compared(&self) -> u64 {
-        self.draws + self.quantizes + self.refusals
+        self.draws + self.quantizes + self.overfull + self.retired
     }
 
     fn note(&mut self, job: &Job, difference: Option<String>) {
         let count = match &job.written {
-            Err(_) => &mut self.refusals,
+            Err(said) if said == SAID_OF_RETIRED => &mut self.retired,
+            Err(_) => &mut self.overfull,
             Ok(_) if job.words[0] == "draw" => &mut self.draws,
             Ok(_) => &mut self.quantizes,
         };
@@ -107,9 +110,9 @@ fn main() -> ExitCode {
         }
     };
     report.found.iter().for_each(|difference| println!("differs: {difference}"));
-    let Report { draws, quantizes, refusals, found } = &report;
+    let Report { draws, quantizes, overfull, retired, found } = &report;
     println!(
-        "compared: {draws} draws, {quantizes} quantizes, {refusals} refusals with 8; differences: {}",
+        "compared: {draws} draws, {quantizes} quantizes, {overfull} refusals with 8, {retired} with 15; differences: {}",
         found.len()
     );
     match report.compared() {

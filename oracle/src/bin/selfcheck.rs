@@ -1,5 +1,6 @@
 //! Holds the original, as it is built here, to the model, and the colour
-//! account to its balance.
+//! account to its balance. Original and model still have the kinds that a port
+//! refuses as retired, and are compared in these too.
 //!
 //!   selfcheck [--seed N] [--cases N]
 
@@ -239,7 +240,7 @@ fn check_candidates(tally: &mut Tally, case: &ToMode, tables: &Tables, name: &st
     }
 }
 
-/// Pictures whose case is not refused before it is drawn.
+/// Pictures whose case is not refused before it is drawn, and so of no retired kind.
 fn check_pictures(tally: &mut Tally, seed: u64, cases: u64) {
     for number in 0..cases {
         let name = format!("seed {seed} case {number}");
@@ -255,8 +256,8 @@ fn check_pictures(tally: &mut Tally, seed: u64, cases: u64) {
     }
 }
 
-/// Every kind, shift and rounding of the original's own tables, and as many
-/// arbitrary tables.
+/// Every kind, the retired ones among them, with every shift and rounding of the
+/// original's own tables, and as many arbitrary tables.
 fn check_every_kind(tally: &mut Tally, seed: u64) {
     let mut rng = Rng::new(seed);
     for turn in 0..11 * 3 * 4 {

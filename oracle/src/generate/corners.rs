@@ -98,6 +98,7 @@ fn many_candidates(places: usize) -> Case {
 
 /// Cases at the largest bounds, always put to a port before random ones.
 pub fn corners() -> Vec<Case> {
+    let [stipple_v, stipple_h] = model::RETIRED;
     vec![
         whole_quantize(0, 1024, 1024, 2),
         whole_quantize(3, 4096, 256, 2),
@@ -120,5 +121,12 @@ pub fn corners() -> Vec<Case> {
         many_candidates(65_536),
         many_candidates(65_535),
         many_candidates(65_537),
+        // Retired kinds: nothing else wrong, and a size, an entry and a candidate too
+        // many.
+        whole_quantize(stipple_v, 1024, 1024, 2),
+        whole_quantize(stipple_h, 1024, 1025, 2),
+        whole_quantize(stipple_h, 8, 8, 257),
+        whole_to_mode(stipple_h, 128, 128, 256, 512),
+        whole_to_mode(stipple_v, 128, 128, 256, 511),
     ]
 }

@@ -42,6 +42,8 @@ impl Maker<'_> {
         }
     }
 
+    /// One of the eleven kinds. Two of them are retired, so that 15 and what it
+    /// hides are asked for as often as other refusals.
     pub(super) fn kind(&mut self) -> u32 {
         self.rng.below(11) as u32
     }

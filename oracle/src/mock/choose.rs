@@ -24,6 +24,12 @@ impl Mock {
             .collect()
     }
 
+    /// The kind by which a number is drawn: its own, save with the slip that gives
+    /// the number of a retired kind away.
+    pub(super) fn drawn_as(&self, kind: u32) -> u32 {
+        if self.has_slip(Slip::StippleVGivenToLineV) && kind == 5 { 7 } else { kind }
+    }
+
     pub(super) fn convert(&self, [r, g, b]: [u8; 3]) -> Lab {
         if self.has_slip(Slip::RootOffByOne) {
             return as_floats(millionths_with(|n| root_by_halving(n) + 1, r, g, b));

@@ -1,17 +1,42 @@
 //! What the mock refuses, with which number, and what a refusal does to the lent
 //! buffers.
 
+use std::cmp::Reverse;
+
 use super::slip::{Mock, Slip};
 use crate::case::{Quantize, ToMode};
-use crate::model;
+use crate::model::{self, is_retired};
 use crate::port::{Lists, Read, Rooms};
 
 impl Mock {
-    /// The number said for a list of tests in the order of their numbers.
+    /// The number said for a list of tests in the order of the call's replies: the
+    /// first, save with the slips that put them in another order.
     pub(super) fn say(&self, tests: &[(bool, u32)]) -> u32 {
-        let mut said = tests.iter().filter(|t| t.0).map(|t| t.1);
-        let number = if self.has_slip(Slip::HighestNumberFirst) { said.last() } else { said.next() };
+        let mut said: Vec<u32> = tests.iter().filter(|t| t.0).map(|t| t.1).collect();
+        match self.slip {
+            Some(Slip::HighestNumberFirst) => said.sort_by_key(|&number| Reverse(number)),
+            Some(Slip::LowestNumberFirst) => said.sort(),
+            Some(Slip::FifteenBeforeOne) => said.sort_by_key(|&number| number != 15),
+            Some(Slip::FifteenAfterTwo) => said.sort_by_key(|&number| (number > 2, number != 15)),
+            _ => {}
+        }
+        let number = said.first().copied();
         if self.has_slip(Slip::RefusesEverything) { number.unwrap_or(3) } else { number.unwrap_or(0) }
+    }
+
+    /// Whether there is no such kind.
+    pub(super) fn unknown(&self, kind: u32) -> bool {
+        kind > 10 || self.has_slip(Slip::RetiredKindUnknown) && is_retired(kind)
+    }
+
+    /// Whether the kind is retired, and no slip has it drawn.
+    pub(super) fn retired(&self, kind: u32) -> bool {
+        let drawn = match self.slip {
+            Some(Slip::StippleHDrawn) => kind == 6,
+            Some(Slip::StippleVGivenToLineV) => kind == 5,
+            _ => false,
+        };
+        is_retired(kind) && !drawn
     }
 
     /// Whether results are written for this number.
@@ -52,7 +77,8 @@ impl Mock {
             && read.palette.len() % 4 == 0
             && lengths == [count, 4 * count, cells];
         self.say(&[
-            (case.kind > 10 || case.shift < 3 || case.shift > 5, 1),
+            (self.unknown(case.kind) || case.shift < 3 || case.shift > 5, 1),
+            (self.retired(case.kind), 15),
             (self.size_wrong(case.width, case.height), 2),
             (!fit, 3),
             (read.palette.len() < 4 || read.palette.len() / 4 > 256, 4),
@@ -70,7 +96,8 @@ impl Mock {
             && self.rooms_fit(rooms.places, rooms.oklab);
         let sides = case.tile.iter().all(|&side| side > 0 && side <= 4096);
         self.say(&[
-            (case.kind > 10 || case.shift < 3 || case.shift > 5, 1),
+            (self.unknown(case.kind) || case.shift < 3 || case.shift > 5, 1),
+            (self.retired(case.kind), 15),
             (self.size_wrong(case.width, case.height) || self.origin_wrong(case), 2),
             (!fit, 3),
             (!sides || case.limit > 256, 5),
@@ -85,9 +112,10 @@ impl Mock {
         if self.has_slip(Slip::FlagReadAsByte) { flag as u8 != 0 } else { flag != 0 }
     }
 
-    /// What a refusal does to a buffer: nothing, save with the slip for it.
-    pub(super) fn leave(&self, buffer: &mut [u8]) {
-        if self.has_slip(Slip::RefusalChangesBuffers) {
+    /// What a refusal does to a buffer: nothing, save with the slips for it.
+    pub(super) fn leave(&self, number: u32, buffer: &mut [u8]) {
+        let fifteen = number == 15 && self.has_slip(Slip::FifteenChangesBuffers);
+        if fifteen || self.has_slip(Slip::RefusalChangesBuffers) {
             buffer.fill(0);
         }
     }

@@ -28,6 +28,14 @@ pub enum Slip {
     OneEntryHasNoPositions,
     RefusalWritesPositions,
     IndexOfTwinInBracket,
+    // Retired kinds, and the order of 15.
+    FifteenBeforeOne,
+    FifteenAfterTwo,
+    LowestNumberFirst,
+    FifteenChangesBuffers,
+    RetiredKindUnknown,
+    StippleHDrawn,
+    StippleVGivenToLineV,
     // Others.
     Alpha127Opaque,
     RootOffByOne,
@@ -63,7 +71,7 @@ pub enum Slip {
 }
 
 impl Slip {
-    pub const ALL: [Slip; 53] = [
+    pub const ALL: [Slip; 60] = [
         Slip::LastOfEqualNearest,
         Slip::LastOfEqualShortlist,
         Slip::LastOfEqualResidual,
@@ -86,6 +94,13 @@ impl Slip {
         Slip::OneEntryHasNoPositions,
         Slip::RefusalWritesPositions,
         Slip::IndexOfTwinInBracket,
+        Slip::FifteenBeforeOne,
+        Slip::FifteenAfterTwo,
+        Slip::LowestNumberFirst,
+        Slip::FifteenChangesBuffers,
+        Slip::RetiredKindUnknown,
+        Slip::StippleHDrawn,
+        Slip::StippleVGivenToLineV,
         Slip::Alpha127Opaque,
         Slip::RootOffByOne,
         Slip::RootDownward,

@@ -2,11 +2,11 @@
 //! search by colour would mix up. Some are random, and some long enough to be
 //! searched by blocks. `tests/positions.rs` holds them to what they are for.
 
-use super::{Quota, kind_of, sample};
+use super::{Quota, sample};
 use crate::case::{Call, Case, List, Lookup, Quantize, Value};
 use crate::examples;
 use crate::generate::{Style, case_with};
-use crate::model::{self, Entry};
+use crate::model::{self, DRAWN, Entry};
 use crate::original::{Rgba, own_tables};
 use crate::reference::expected;
 use crate::rng::Rng;
@@ -35,7 +35,7 @@ fn by_blocks(width: u64, rng: &mut Rng) -> Lookup {
 /// Lookups over flat lists, or, with another seed, over records. The width is that
 /// of the long list, where the nearest has seven twins.
 pub fn of_lookup(call: Call, seed: u64, width: u64) -> Vec<Case> {
-    let quota = Quota { number: 0, kind: None, count: RANDOM };
+    let quota = Quota { number: 0, kind: None, behind: None, count: RANDOM };
     let mut cases = sample(call, Style::RECORDER_OF_TWINS, seed, vec![quota], None);
     let lookup = by_blocks(width, &mut Rng::new(seed));
     cases.push(match call {
@@ -66,13 +66,13 @@ fn takes_a_later_entry(case: &Case) -> bool {
 fn small(kind: u32, seed: u64) -> Case {
     let tables = own_tables(3, false);
     let random = |turn| case_with(Call::QuantizePixels, seed, turn, Style::RECORDER_OF_TWINS, Some((3, &tables)));
-    (0..).map(random).find(|case| kind_of(case) == kind && takes_a_later_entry(case)).unwrap()
+    (0..).map(random).find(|case| case.kind() == Some(kind) && takes_a_later_entry(case)).unwrap()
 }
 
-/// A small palette for every kind, one of one colour, and larger ones, up to the
-/// largest.
+/// A small palette for every kind that is drawn, one of one colour, and larger
+/// ones, up to the largest.
 pub fn of_quantize(seed: u64) -> Vec<Case> {
-    let mut cases: Vec<Case> = (0..11).map(|kind| small(kind, seed)).collect();
+    let mut cases: Vec<Case> = DRAWN.into_iter().map(|kind| small(kind, seed)).collect();
     let (rng, bayer_8x8, checker, line) = (&mut Rng::new(seed), 3, 4, 7);
     cases.push(quantize(checker, 1, 9, rng));
     cases.push(quantize(line, 5, 12, rng));

@@ -7,6 +7,10 @@ pub const BLACK: [u8; 4] = [0, 0, 0, 255];
 pub const WHITE: [u8; 4] = [31, 31, 31, 255];
 pub const CLEAR: [u8; 4] = [200, 100, 50, 127];
 
+/// The kinds that are drawn, and those that are retired.
+pub const DRAWN: [u32; 9] = [0, 1, 2, 3, 4, 7, 8, 9, 10];
+pub const RETIRED: [u32; 2] = [5, 6];
+
 /// What the lent slices hold before a call.
 pub const RUBBISH: u8 = 0xee;
 pub const ODD: f32 = 7.25;

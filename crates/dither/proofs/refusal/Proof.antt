@@ -1,9 +1,9 @@
--- `dither::refusal` meets its contract: the tests are the definition's, in the order of the numbers. Assumes nothing.
+-- `dither::refusal` meets its contract: the tests are the definition's, in its order. Assumes nothing.
 use mathlib.Core.Path.{_≡_, sym, _∙_}
 use mathlib.Core.Bool.{Bool, false, not, _||_}
 use Prim.Native.Nat.{_*_, _≤_}
 use native.Mathlib.Omega.{arith}
-use Rattle.patterns.specs.Kinds.{isKind}
+use Rattle.patterns.specs.Kinds.{isKind, isRetired}
 use Rattle.mixing.specs.Widths.{isShift}
 use Rattle.dither.specs.Mode.{boundsWrong, lengthsWrong}
 use Rattle.dither.proofs.NumberLaws.{bounded}
@@ -11,21 +11,39 @@ use borrow.Author.Needs.{needs}
 use Rattle.dither.proofs.refusal.Statement.{statement}
 use Rattle.dither.proofs.refusal.Tie as tie
 
--- what the first test asks
-mode-is : (c : tie.After-is-shift) (t : Bool) → not (c .before .is-kind .result) || not (c .is-shift .result) ≡ t
-    → not (isKind (c .before .before .args .s .kind)) || not (isShift (c .before .before .args .s .shift)) ≡ t
-mode-is c t e = (λ i. not (sym (c .before .is-kind .ensures) i) || not (sym (c .is-shift .ensures) i)) ∙ e
+-- ---- what the first three tests ask
+abbrev start : tie.After-bounds-wrong → tie.Start
+start c = c .before .before .before .before
 
--- past each test, what it asks is not so
-bounds-right : (c : tie.Else2) → boundsWrong (c .before .before .before .before .before .args .s) ≡ false
-bounds-right c = sym (c .before .bounds-wrong .ensures) ∙ c .if2 .left
+mode-is : (c : tie.After-bounds-wrong) (t : Bool) → not (c .before .before .before .is-kind .result) || not (c .before .before .is-shift .result) ≡ t
+    → not (isKind (start c .args .s .kind)) || not (isShift (start c .args .s .shift)) ≡ t
+mode-is c t e = (λ i. not (sym (c .before .before .before .is-kind .ensures) i) || not (sym (c .before .before .is-shift .ensures) i)) ∙ e
 
-small : (c : tie.Else2) → let s = c .before .before .before .before .before .args .s in s .width * s .height ≤ 1048576
+retired-is : (c : tie.After-bounds-wrong) (t : Bool) → c .before .is-retired .result ≡ t → isRetired (start c .args .s .kind) ≡ t
+retired-is c t e = sym (c .before .is-retired .ensures) ∙ e
+
+bounds-are : (c : tie.After-bounds-wrong) (t : Bool) → c .bounds-wrong .result ≡ t → boundsWrong (start c .args .s) ≡ t
+bounds-are c t e = sym (c .bounds-wrong .ensures) ∙ e
+
+-- ---- past each test, what it asks is not so
+abbrev asked : tie.Else3 → tie.After-bounds-wrong
+asked c = c .before .before .before
+
+mode-right : (c : tie.Else3) → not (isKind (start (asked c) .args .s .kind)) || not (isShift (start (asked c) .args .s .shift)) ≡ false
+mode-right c = mode-is (asked c) _ (c .before .before .if1 .left)
+
+drawn : (c : tie.Else3) → isRetired (start (asked c) .args .s .kind) ≡ false
+drawn c = retired-is (asked c) _ (c .before .if2 .left)
+
+bounds-right : (c : tie.Else3) → boundsWrong (start (asked c) .args .s) ≡ false
+bounds-right c = bounds-are (asked c) _ (c .if3 .left)
+
+small : (c : tie.Else3) → start (asked c) .args .s .width * start (asked c) .args .s .height ≤ 1048576
 small c = bounded _ (bounds-right c)
 
-lengths-right : (c : tie.Else3) → let a = c .before .before .before .before .before .before .before .before .before .args in
+lengths-right : (c : tie.Else4) → let a = start (asked (c .before .before .before .before)) .args in
     lengthsWrong (a .s .kind) (a .s .width * a .s .height) (a .lengths) ≡ false
-lengths-right c = sym (c .before .lengths-wrong .ensures) ∙ c .if3 .left
+lengths-right c = sym (c .before .lengths-wrong .ensures) ∙ c .if4 .left
 
 is-kind-requires : tie.Need-is-kind-requires
 is-kind-requires c κs = search needs
@@ -33,16 +51,22 @@ is-kind-requires c κs = search needs
 is-shift-requires : tie.Need-is-shift-requires
 is-shift-requires c κs = search needs
 
-returns : tie.Need-returns
-returns c = rw (mode-is (c .before) _ (c .if1 .taken))
+is-retired-requires : tie.Need-is-retired-requires
+is-retired-requires c κs = search needs
 
 bounds-wrong-requires : tie.Need-bounds-wrong-requires
 bounds-wrong-requires c κs = search needs
 
+returns : tie.Need-returns
+returns c = rw (mode-is (c .before) _ (c .if1 .taken))
+
 returns-2 : tie.Need-returns-2
-returns-2 c =
-    let m = c .before .before in
-    rw (mode-is (m .before) _ (m .if1 .left), sym (c .before .bounds-wrong .ensures) ∙ c .if2 .taken)
+returns-2 c = let a = c .before .before in rw (mode-is a _ (c .before .if1 .left), retired-is a _ (c .if2 .taken))
+
+returns-3 : tie.Need-returns-3
+returns-3 c =
+    let a = c .before .before .before in
+    rw (mode-is a _ (c .before .before .if1 .left), retired-is a _ (c .before .if2 .left), bounds-are a _ (c .if3 .taken))
 
 cast-size : tie.Need-cast-size
 cast-size c = search needs
@@ -56,28 +80,25 @@ mul-size c = let h = small (c .before .before) in omega arith
 lengths-wrong-requires : tie.Need-lengths-wrong-requires
 lengths-wrong-requires c κs = small (c .before .before)
 
-returns-3 : tie.Need-returns-3
-returns-3 c =
+returns-4 : tie.Need-returns-4
+returns-4 c =
     let k = c .before .before .before .before in
-    let m = k .before .before in
-    rw (mode-is (m .before) _ (m .if1 .left), bounds-right k, sym (c .before .lengths-wrong .ensures) ∙ c .if3 .taken)
+    rw (mode-right k, drawn k, bounds-right k, sym (c .before .lengths-wrong .ensures) ∙ c .if4 .taken)
 
 budget-wrong-requires : tie.Need-budget-wrong-requires
 budget-wrong-requires c κs = search needs
 
-returns-4 : tie.Need-returns-4
-returns-4 c =
-    let k = c .before .before in
-    let j = k .before .before .before .before in
-    let m = j .before .before in
-    rw (mode-is (m .before) _ (m .if1 .left), bounds-right j, lengths-right k, sym (c .before .budget-wrong .ensures) ∙ c .if4 .taken)
-
 returns-5 : tie.Need-returns-5
 returns-5 c =
-    let k = c .before .before in
-    let j = k .before .before .before .before in
-    let m = j .before .before in
-    rw (mode-is (m .before) _ (m .if1 .left), bounds-right j, lengths-right k, sym (c .before .budget-wrong .ensures) ∙ c .if4 .left)
+    let l = c .before .before in
+    let k = l .before .before .before .before in
+    rw (mode-right k, drawn k, bounds-right k, lengths-right l, sym (c .before .budget-wrong .ensures) ∙ c .if5 .taken)
+
+returns-6 : tie.Need-returns-6
+returns-6 c =
+    let l = c .before .before in
+    let k = l .before .before .before .before in
+    rw (mode-right k, drawn k, bounds-right k, lengths-right l, sym (c .before .budget-wrong .ensures) ∙ c .if5 .left)
 
 pub refusal-spec : {M : Type 1} → statement M
 refusal-spec =
@@ -85,14 +106,16 @@ refusal-spec =
     (tie.spec
     is-kind-requires
     is-shift-requires
-    returns
+    is-retired-requires
     bounds-wrong-requires
+    returns
     returns-2
+    returns-3
     cast-size
     cast-size-2
     mul-size
     lengths-wrong-requires
-    returns-3
-    budget-wrong-requires
     returns-4
-    returns-5)
+    budget-wrong-requires
+    returns-5
+    returns-6)

@@ -4,13 +4,13 @@ use mathlib.Core.List.{List, [], _∷_}
 use borrow.Author.Needs.{needs}
 use denote.Enum.Declared.{tagOf}
 use types.Run.{OneOf, miss}
-use lib.Ieee.{Float}
 use Prim.Native.Nat.{ℕ}
 use Rattle.floats.proofs.Sixteenths.{sixteen}
 use Rattle.patterns.specs.declared.Dither.{Dither}
 use Rattle.patterns.specs.declared.Dither.the-variants.{Off, Bayer2x2, Bayer4x4, Bayer8x8, Checker}
 use Rattle.patterns.specs.declared.Dither.the-variants.{StippleV, StippleH, LineV, LineH, Atkinson, FloydSteinberg}
 use Rattle.patterns.specs.declared.Kind.{Kind}
+use Rattle.patterns.specs.declared.Thresholded.{Thresholded}
 use Rattle.patterns.specs.declared.Thresholded.the-variants.{At, Refused}
 use Rattle.patterns.specs.Kinds.{way, wayIn}
 use Rattle.patterns.specs.Thresholds.{thresholdFrom, OrderedThresholdAnswered, thresholdOf}
@@ -37,10 +37,10 @@ known p =
     ap (λ (k : Kind). answerIn (wayIn k) (column p) (row p)) (sym (p .before .dither .given .1))
     ∙ answer-is _ _ _ _ (p .before .before .before .dither-of .ensures)
 
--- in an arm with a matrix the threshold is that of the table
-arm : (p : tie.After-known-told) (d : Dither) → dither p ≡ d → (t : Float) → At t ≡ answerIn (way d) (column p) (row p)
-    → OrderedThresholdAnswered (kind p) (column p) (row p) (At t)
-arm p d e t a = threshold-promised (kind p) (column p) (row p) (a ∙ ap (λ (d : Dither). answerIn (way d) (column p) (row p)) (sym e) ∙ known p)
+-- in an arm of one kind the answer is that of the table
+arm : (p : tie.After-known-told) (d : Dither) → dither p ≡ d → (r : Thresholded) → r ≡ answerIn (way d) (column p) (row p)
+    → OrderedThresholdAnswered (kind p) (column p) (row p) r
+arm p d e r a = threshold-promised (kind p) (column p) (row p) (a ∙ ap (λ (d : Dither). answerIn (way d) (column p) (row p)) (sym e) ∙ known p)
 
 -- the last arm's kinds have no matrix
 abbrev unordered : List ℕ
@@ -101,66 +101,56 @@ threshold-2x2-requires-2 c κs = search needs
 enum-told-6 : tie.Need-enum-told-6
 enum-told-6 c = search needs
 
-threshold-2x2-requires-3 : tie.Need-threshold-2x2-requires-3
-threshold-2x2-requires-3 c κs = search needs
-
 enum-told-7 : tie.Need-enum-told-7
 enum-told-7 c = search needs
-
-threshold-2x2-requires-4 : tie.Need-threshold-2x2-requires-4
-threshold-2x2-requires-4 c κs = search needs
 
 enum-told-8 : tie.Need-enum-told-8
 enum-told-8 c = search needs
 
-threshold-2x2-requires-5 : tie.Need-threshold-2x2-requires-5
-threshold-2x2-requires-5 c κs = search needs
+threshold-2x2-requires-3 : tie.Need-threshold-2x2-requires-3
+threshold-2x2-requires-3 c κs = search needs
 
 enum-told-9 : tie.Need-enum-told-9
 enum-told-9 c = search needs
 
-threshold-2x2-requires-6 : tie.Need-threshold-2x2-requires-6
-threshold-2x2-requires-6 c κs = search needs
+threshold-2x2-requires-4 : tie.Need-threshold-2x2-requires-4
+threshold-2x2-requires-4 c κs = search needs
 
 returns-2 : tie.Need-returns-2
 returns-2 c =
-    arm (c .before .before .before) Bayer2x2 (c .before .enum-told2 .given .1) (c .threshold-2x2 .result)
+    arm (c .before .before .before) Bayer2x2 (c .before .enum-told2 .given .1) (At (c .threshold-2x2 .result))
     (ap At (c .threshold-2x2 .ensures ∙ ap (thresholdFrom _) four))
 
 returns-3 : tie.Need-returns-3
 returns-3 c =
-    arm (c .before .before .before) Bayer4x4 (c .before .enum-told3 .given .1) (c .threshold-4x4 .result)
+    arm (c .before .before .before) Bayer4x4 (c .before .enum-told3 .given .1) (At (c .threshold-4x4 .result))
     (ap At (c .threshold-4x4 .ensures ∙ ap (thresholdFrom _) sixteen))
 
 returns-4 : tie.Need-returns-4
 returns-4 c =
-    arm (c .before .before .before) Bayer8x8 (c .before .enum-told4 .given .1) (c .threshold-8x8 .result)
+    arm (c .before .before .before) Bayer8x8 (c .before .enum-told4 .given .1) (At (c .threshold-8x8 .result))
     (ap At (c .threshold-8x8 .ensures ∙ ap (thresholdFrom _) sixty-four))
 
 returns-5 : tie.Need-returns-5
 returns-5 c =
-    arm (c .before .before .before) Checker (c .before .enum-told5 .given .1) (c .threshold-2x22 .result)
+    arm (c .before .before .before) Checker (c .before .enum-told5 .given .1) (At (c .threshold-2x22 .result))
     (ap At (c .threshold-2x22 .ensures ∙ ap (thresholdFrom _) two))
 
 returns-6 : tie.Need-returns-6
-returns-6 c =
-    arm (c .before .before .before) StippleV (c .before .enum-told6 .given .1) (c .threshold-2x23 .result)
-    (ap At (c .threshold-2x23 .ensures ∙ ap (thresholdFrom _) four))
+returns-6 c = arm (c .before .before) StippleV (c .enum-told6 .given .1) (Refused 15) refl
 
 returns-7 : tie.Need-returns-7
-returns-7 c =
-    arm (c .before .before .before) StippleH (c .before .enum-told7 .given .1) (c .threshold-2x24 .result)
-    (ap At (c .threshold-2x24 .ensures ∙ ap (thresholdFrom _) four))
+returns-7 c = arm (c .before .before) StippleH (c .enum-told7 .given .1) (Refused 15) refl
 
 returns-8 : tie.Need-returns-8
 returns-8 c =
-    arm (c .before .before .before) LineV (c .before .enum-told8 .given .1) (c .threshold-2x25 .result)
-    (ap At (c .threshold-2x25 .ensures ∙ ap (thresholdFrom _) two))
+    arm (c .before .before .before) LineV (c .before .enum-told8 .given .1) (At (c .threshold-2x23 .result))
+    (ap At (c .threshold-2x23 .ensures ∙ ap (thresholdFrom _) two))
 
 returns-9 : tie.Need-returns-9
 returns-9 c =
-    arm (c .before .before .before) LineH (c .before .enum-told9 .given .1) (c .threshold-2x26 .result)
-    (ap At (c .threshold-2x26 .ensures ∙ ap (thresholdFrom _) two))
+    arm (c .before .before .before) LineH (c .before .enum-told9 .given .1) (At (c .threshold-2x24 .result))
+    (ap At (c .threshold-2x24 .ensures ∙ ap (thresholdFrom _) two))
 
 returns-10 : tie.Need-returns-10
 returns-10 c =
@@ -184,13 +174,11 @@ ordered-threshold-spec =
     enum-told-5
     threshold-2x2-requires-2
     enum-told-6
-    threshold-2x2-requires-3
     enum-told-7
-    threshold-2x2-requires-4
     enum-told-8
-    threshold-2x2-requires-5
+    threshold-2x2-requires-3
     enum-told-9
-    threshold-2x2-requires-6
+    threshold-2x2-requires-4
     returns-2
     returns-3
     returns-4

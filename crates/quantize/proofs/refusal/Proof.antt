@@ -1,32 +1,49 @@
--- `quantize::refusal` meets its contract: the tests are the definition's, in the order of the numbers. Assumes nothing.
+-- `quantize::refusal` meets its contract: the tests are the definition's, in its order. Assumes nothing.
 use mathlib.Core.Path.{_≡_, sym, _∙_}
 use mathlib.Core.Bool.{Bool, false, not, _||_}
 use Prim.Native.Nat.{_*_, _≤_}
 use native.Mathlib.Omega.{arith}
 use Rattle.picture.specs.Bounds.{sizeWrong}
 use Rattle.picture.proofs.BoundLaws.{sized}
-use Rattle.patterns.specs.Kinds.{isKind}
+use Rattle.patterns.specs.Kinds.{isKind, isRetired}
 use Rattle.mixing.specs.Widths.{isShift}
 use Rattle.quantize.specs.Quantize.{lengthsWrong}
 use borrow.Author.Needs.{needs}
 use Rattle.quantize.proofs.refusal.Statement.{statement}
 use Rattle.quantize.proofs.refusal.Tie as tie
 
--- what the first test asks
-mode-is : (c : tie.After-is-shift) (t : Bool) → not (c .before .is-kind .result) || not (c .is-shift .result) ≡ t
-    → not (isKind (c .before .before .args .kind)) || not (isShift (c .before .before .args .shift)) ≡ t
-mode-is c t e = (λ i. not (sym (c .before .is-kind .ensures) i) || not (sym (c .is-shift .ensures) i)) ∙ e
+-- ---- what the first three tests ask
+abbrev start : tie.After-size-wrong → tie.Start
+start c = c .before .before .before .before
 
--- past each test, what it asks is not so
-size-right : (c : tie.Else2) → let a = c .before .before .before .before .before .args in sizeWrong (a .width) (a .height) ≡ false
-size-right c = sym (c .before .size-wrong .ensures) ∙ c .if2 .left
+mode-is : (c : tie.After-size-wrong) (t : Bool) → not (c .before .before .before .is-kind .result) || not (c .before .before .is-shift .result) ≡ t
+    → not (isKind (start c .args .kind)) || not (isShift (start c .args .shift)) ≡ t
+mode-is c t e = (λ i. not (sym (c .before .before .before .is-kind .ensures) i) || not (sym (c .before .before .is-shift .ensures) i)) ∙ e
 
-small : (c : tie.Else2) → let a = c .before .before .before .before .before .args in a .width * a .height ≤ 1048576
+retired-is : (c : tie.After-size-wrong) (t : Bool) → c .before .is-retired .result ≡ t → isRetired (start c .args .kind) ≡ t
+retired-is c t e = sym (c .before .is-retired .ensures) ∙ e
+
+size-is : (c : tie.After-size-wrong) (t : Bool) → c .size-wrong .result ≡ t → sizeWrong (start c .args .width) (start c .args .height) ≡ t
+size-is c t e = sym (c .size-wrong .ensures) ∙ e
+
+-- ---- past each test, what it asks is not so
+abbrev asked : tie.Else3 → tie.After-size-wrong
+asked c = c .before .before .before
+
+mode-right : (c : tie.Else3) → not (isKind (start (asked c) .args .kind)) || not (isShift (start (asked c) .args .shift)) ≡ false
+mode-right c = mode-is (asked c) _ (c .before .before .if1 .left)
+
+drawn : (c : tie.Else3) → isRetired (start (asked c) .args .kind) ≡ false
+drawn c = retired-is (asked c) _ (c .before .if2 .left)
+
+size-right : (c : tie.Else3) → sizeWrong (start (asked c) .args .width) (start (asked c) .args .height) ≡ false
+size-right c = size-is (asked c) _ (c .if3 .left)
+
+small : (c : tie.Else3) → start (asked c) .args .width * start (asked c) .args .height ≤ 1048576
 small c = sized _ _ (size-right c) .2
 
-lengths-right : (c : tie.Else3) → let a = c .before .before .before .before .before .before .before .args in
-    lengthsWrong (a .kind) (a .width * a .height) (a .s) ≡ false
-lengths-right c = sym (c .before .lengths-wrong .ensures) ∙ c .if3 .left
+lengths-right : (c : tie.Else4) → let a = start (asked (c .before .before)) .args in lengthsWrong (a .kind) (a .width * a .height) (a .s) ≡ false
+lengths-right c = sym (c .before .lengths-wrong .ensures) ∙ c .if4 .left
 
 is-kind-requires : tie.Need-is-kind-requires
 is-kind-requires c κs = search needs
@@ -34,16 +51,22 @@ is-kind-requires c κs = search needs
 is-shift-requires : tie.Need-is-shift-requires
 is-shift-requires c κs = search needs
 
-returns : tie.Need-returns
-returns c = rw (mode-is (c .before) _ (c .if1 .taken))
+is-retired-requires : tie.Need-is-retired-requires
+is-retired-requires c κs = search needs
 
 size-wrong-requires : tie.Need-size-wrong-requires
 size-wrong-requires c κs = search needs
 
+returns : tie.Need-returns
+returns c = rw (mode-is (c .before) _ (c .if1 .taken))
+
 returns-2 : tie.Need-returns-2
-returns-2 c =
-    let m = c .before .before in
-    rw (mode-is (m .before) _ (m .if1 .left), sym (c .before .size-wrong .ensures) ∙ c .if2 .taken)
+returns-2 c = let a = c .before .before in rw (mode-is a _ (c .before .if1 .left), retired-is a _ (c .if2 .taken))
+
+returns-3 : tie.Need-returns-3
+returns-3 c =
+    let a = c .before .before .before in
+    rw (mode-is a _ (c .before .before .if1 .left), retired-is a _ (c .before .if2 .left), size-is a _ (c .if3 .taken))
 
 mul-size : tie.Need-mul-size
 mul-size c = let h = small c in omega arith
@@ -51,28 +74,23 @@ mul-size c = let h = small c in omega arith
 lengths-wrong-requires : tie.Need-lengths-wrong-requires
 lengths-wrong-requires c κs = small c
 
-returns-3 : tie.Need-returns-3
-returns-3 c =
-    let k = c .before .before in
-    let m = k .before .before in
-    rw (mode-is (m .before) _ (m .if1 .left), size-right k, sym (c .before .lengths-wrong .ensures) ∙ c .if3 .taken)
+returns-4 : tie.Need-returns-4
+returns-4 c = let k = c .before .before in rw (mode-right k, drawn k, size-right k, sym (c .before .lengths-wrong .ensures) ∙ c .if4 .taken)
 
 entries-wrong-requires : tie.Need-entries-wrong-requires
 entries-wrong-requires c κs = search needs
 
-returns-4 : tie.Need-returns-4
-returns-4 c =
-    let k = c .before .before .before in
-    let j = k .before .before in
-    let m = j .before .before in
-    rw (mode-is (m .before) _ (m .if1 .left), size-right j, lengths-right k, sym (c .before .entries-wrong .ensures) ∙ c .if4 .taken)
-
 returns-5 : tie.Need-returns-5
 returns-5 c =
-    let k = c .before .before .before in
-    let j = k .before .before in
-    let m = j .before .before in
-    rw (mode-is (m .before) _ (m .if1 .left), size-right j, lengths-right k, sym (c .before .entries-wrong .ensures) ∙ c .if4 .left)
+    let l = c .before .before .before in
+    let k = l .before .before in
+    rw (mode-right k, drawn k, size-right k, lengths-right l, sym (c .before .entries-wrong .ensures) ∙ c .if5 .taken)
+
+returns-6 : tie.Need-returns-6
+returns-6 c =
+    let l = c .before .before .before in
+    let k = l .before .before in
+    rw (mode-right k, drawn k, size-right k, lengths-right l, sym (c .before .entries-wrong .ensures) ∙ c .if5 .left)
 
 pub refusal-spec : {M : Type 1} → statement M
 refusal-spec =
@@ -80,12 +98,14 @@ refusal-spec =
     (tie.spec
     is-kind-requires
     is-shift-requires
-    returns
+    is-retired-requires
     size-wrong-requires
+    returns
     returns-2
+    returns-3
     mul-size
     lengths-wrong-requires
-    returns-3
-    entries-wrong-requires
     returns-4
-    returns-5)
+    entries-wrong-requires
+    returns-5
+    returns-6)
