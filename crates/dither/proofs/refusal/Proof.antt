@@ -1,6 +1,6 @@
 -- `dither::refusal` meets its contract: the tests are the definition's, in its order. Assumes nothing.
 use mathlib.Core.Path.{_≡_, sym, _∙_}
-use mathlib.Core.Bool.{Bool, false, not, _||_}
+use mathlib.Core.Bool.{false, not, _||_}
 use Prim.Native.Nat.{_*_, _≤_}
 use native.Mathlib.Omega.{arith}
 use Rattle.patterns.specs.Kinds.{isKind, isRetired}
@@ -10,40 +10,6 @@ use Rattle.dither.proofs.NumberLaws.{bounded}
 use borrow.Author.Needs.{needs}
 use Rattle.dither.proofs.refusal.Statement.{statement}
 use Rattle.dither.proofs.refusal.Tie as tie
-
--- ---- what the first three tests ask
-abbrev start : tie.After-bounds-wrong → tie.Start
-start c = c .before .before .before .before
-
-mode-is : (c : tie.After-bounds-wrong) (t : Bool) → not (c .before .before .before .is-kind .result) || not (c .before .before .is-shift .result) ≡ t
-    → not (isKind (start c .args .s .kind)) || not (isShift (start c .args .s .shift)) ≡ t
-mode-is c t e = (λ i. not (sym (c .before .before .before .is-kind .ensures) i) || not (sym (c .before .before .is-shift .ensures) i)) ∙ e
-
-retired-is : (c : tie.After-bounds-wrong) (t : Bool) → c .before .is-retired .result ≡ t → isRetired (start c .args .s .kind) ≡ t
-retired-is c t e = sym (c .before .is-retired .ensures) ∙ e
-
-bounds-are : (c : tie.After-bounds-wrong) (t : Bool) → c .bounds-wrong .result ≡ t → boundsWrong (start c .args .s) ≡ t
-bounds-are c t e = sym (c .bounds-wrong .ensures) ∙ e
-
--- ---- past each test, what it asks is not so
-abbrev asked : tie.Else3 → tie.After-bounds-wrong
-asked c = c .before .before .before
-
-mode-right : (c : tie.Else3) → not (isKind (start (asked c) .args .s .kind)) || not (isShift (start (asked c) .args .s .shift)) ≡ false
-mode-right c = mode-is (asked c) _ (c .before .before .if1 .left)
-
-drawn : (c : tie.Else3) → isRetired (start (asked c) .args .s .kind) ≡ false
-drawn c = retired-is (asked c) _ (c .before .if2 .left)
-
-bounds-right : (c : tie.Else3) → boundsWrong (start (asked c) .args .s) ≡ false
-bounds-right c = bounds-are (asked c) _ (c .if3 .left)
-
-small : (c : tie.Else3) → start (asked c) .args .s .width * start (asked c) .args .s .height ≤ 1048576
-small c = bounded _ (bounds-right c)
-
-lengths-right : (c : tie.Else4) → let a = start (asked (c .before .before .before .before)) .args in
-    lengthsWrong (a .s .kind) (a .s .width * a .s .height) (a .lengths) ≡ false
-lengths-right c = sym (c .before .lengths-wrong .ensures) ∙ c .if4 .left
 
 is-kind-requires : tie.Need-is-kind-requires
 is-kind-requires c κs = search needs
@@ -57,16 +23,64 @@ is-retired-requires c κs = search needs
 bounds-wrong-requires : tie.Need-bounds-wrong-requires
 bounds-wrong-requires c κs = search needs
 
+-- ---- each answer is the first that applies, by what the tests so far have said
 returns : tie.Need-returns
-returns c = rw (mode-is (c .before) _ (c .if1 .taken))
+returns c =
+    let a = c .before in
+    let r = a .before in
+    rw (← r .before .before .is-kind .ensures, ← r .before .is-shift .ensures, ← r .is-retired .ensures, ← a .bounds-wrong .ensures, c .if1 .taken)
 
 returns-2 : tie.Need-returns-2
-returns-2 c = let a = c .before .before in rw (mode-is a _ (c .before .if1 .left), retired-is a _ (c .if2 .taken))
+returns-2 c =
+    let a = c .before .before in
+    let r = a .before in
+    rw (
+      ← r .before .before .is-kind .ensures,
+      ← r .before .is-shift .ensures,
+      ← r .is-retired .ensures,
+      ← a .bounds-wrong .ensures,
+      c .before .if1 .left,
+      c .if2 .taken,
+    )
 
 returns-3 : tie.Need-returns-3
 returns-3 c =
     let a = c .before .before .before in
-    rw (mode-is a _ (c .before .before .if1 .left), retired-is a _ (c .before .if2 .left), bounds-are a _ (c .if3 .taken))
+    let r = a .before in
+    rw (
+      ← r .before .before .is-kind .ensures,
+      ← r .before .is-shift .ensures,
+      ← r .is-retired .ensures,
+      ← a .bounds-wrong .ensures,
+      c .before .before .if1 .left,
+      c .before .if2 .left,
+      c .if3 .taken,
+    )
+
+-- ---- past the first three tests, what they ask is not so
+abbrev asked : tie.Else3 → tie.After-bounds-wrong
+asked c = c .before .before .before
+
+abbrev start : tie.Else3 → tie.Start
+start c = asked c .before .before .before .before
+
+mode-right : (c : tie.Else3) → not (isKind (start c .args .s .kind)) || not (isShift (start c .args .s .shift)) ≡ false
+mode-right c =
+    let s = asked c .before .before in
+    (λ i. not (sym (s .before .is-kind .ensures) i) || not (sym (s .is-shift .ensures) i)) ∙ c .before .before .if1 .left
+
+drawn : (c : tie.Else3) → isRetired (start c .args .s .kind) ≡ false
+drawn c = sym (asked c .before .is-retired .ensures) ∙ c .before .if2 .left
+
+bounds-right : (c : tie.Else3) → boundsWrong (start c .args .s) ≡ false
+bounds-right c = sym (asked c .bounds-wrong .ensures) ∙ c .if3 .left
+
+small : (c : tie.Else3) → start c .args .s .width * start c .args .s .height ≤ 1048576
+small c = bounded _ (bounds-right c)
+
+lengths-right : (c : tie.Else4) → let a = start (c .before .before .before .before) .args in
+    lengthsWrong (a .s .kind) (a .s .width * a .s .height) (a .lengths) ≡ false
+lengths-right c = sym (c .before .lengths-wrong .ensures) ∙ c .if4 .left
 
 cast-size : tie.Need-cast-size
 cast-size c = search needs

@@ -1,6 +1,6 @@
 -- `quantize::refusal` meets its contract: the tests are the definition's, in its order. Assumes nothing.
 use mathlib.Core.Path.{_≡_, sym, _∙_}
-use mathlib.Core.Bool.{Bool, false, not, _||_}
+use mathlib.Core.Bool.{false, not, _||_}
 use Prim.Native.Nat.{_*_, _≤_}
 use native.Mathlib.Omega.{arith}
 use Rattle.picture.specs.Bounds.{sizeWrong}
@@ -11,39 +11,6 @@ use Rattle.quantize.specs.Quantize.{lengthsWrong}
 use borrow.Author.Needs.{needs}
 use Rattle.quantize.proofs.refusal.Statement.{statement}
 use Rattle.quantize.proofs.refusal.Tie as tie
-
--- ---- what the first three tests ask
-abbrev start : tie.After-size-wrong → tie.Start
-start c = c .before .before .before .before
-
-mode-is : (c : tie.After-size-wrong) (t : Bool) → not (c .before .before .before .is-kind .result) || not (c .before .before .is-shift .result) ≡ t
-    → not (isKind (start c .args .kind)) || not (isShift (start c .args .shift)) ≡ t
-mode-is c t e = (λ i. not (sym (c .before .before .before .is-kind .ensures) i) || not (sym (c .before .before .is-shift .ensures) i)) ∙ e
-
-retired-is : (c : tie.After-size-wrong) (t : Bool) → c .before .is-retired .result ≡ t → isRetired (start c .args .kind) ≡ t
-retired-is c t e = sym (c .before .is-retired .ensures) ∙ e
-
-size-is : (c : tie.After-size-wrong) (t : Bool) → c .size-wrong .result ≡ t → sizeWrong (start c .args .width) (start c .args .height) ≡ t
-size-is c t e = sym (c .size-wrong .ensures) ∙ e
-
--- ---- past each test, what it asks is not so
-abbrev asked : tie.Else3 → tie.After-size-wrong
-asked c = c .before .before .before
-
-mode-right : (c : tie.Else3) → not (isKind (start (asked c) .args .kind)) || not (isShift (start (asked c) .args .shift)) ≡ false
-mode-right c = mode-is (asked c) _ (c .before .before .if1 .left)
-
-drawn : (c : tie.Else3) → isRetired (start (asked c) .args .kind) ≡ false
-drawn c = retired-is (asked c) _ (c .before .if2 .left)
-
-size-right : (c : tie.Else3) → sizeWrong (start (asked c) .args .width) (start (asked c) .args .height) ≡ false
-size-right c = size-is (asked c) _ (c .if3 .left)
-
-small : (c : tie.Else3) → start (asked c) .args .width * start (asked c) .args .height ≤ 1048576
-small c = sized _ _ (size-right c) .2
-
-lengths-right : (c : tie.Else4) → let a = start (asked (c .before .before)) .args in lengthsWrong (a .kind) (a .width * a .height) (a .s) ≡ false
-lengths-right c = sym (c .before .lengths-wrong .ensures) ∙ c .if4 .left
 
 is-kind-requires : tie.Need-is-kind-requires
 is-kind-requires c κs = search needs
@@ -57,16 +24,63 @@ is-retired-requires c κs = search needs
 size-wrong-requires : tie.Need-size-wrong-requires
 size-wrong-requires c κs = search needs
 
+-- ---- each answer is the first that applies, by what the tests so far have said
 returns : tie.Need-returns
-returns c = rw (mode-is (c .before) _ (c .if1 .taken))
+returns c =
+    let a = c .before in
+    let r = a .before in
+    rw (← r .before .before .is-kind .ensures, ← r .before .is-shift .ensures, ← r .is-retired .ensures, ← a .size-wrong .ensures, c .if1 .taken)
 
 returns-2 : tie.Need-returns-2
-returns-2 c = let a = c .before .before in rw (mode-is a _ (c .before .if1 .left), retired-is a _ (c .if2 .taken))
+returns-2 c =
+    let a = c .before .before in
+    let r = a .before in
+    rw (
+      ← r .before .before .is-kind .ensures,
+      ← r .before .is-shift .ensures,
+      ← r .is-retired .ensures,
+      ← a .size-wrong .ensures,
+      c .before .if1 .left,
+      c .if2 .taken,
+    )
 
 returns-3 : tie.Need-returns-3
 returns-3 c =
     let a = c .before .before .before in
-    rw (mode-is a _ (c .before .before .if1 .left), retired-is a _ (c .before .if2 .left), size-is a _ (c .if3 .taken))
+    let r = a .before in
+    rw (
+      ← r .before .before .is-kind .ensures,
+      ← r .before .is-shift .ensures,
+      ← r .is-retired .ensures,
+      ← a .size-wrong .ensures,
+      c .before .before .if1 .left,
+      c .before .if2 .left,
+      c .if3 .taken,
+    )
+
+-- ---- past the first three tests, what they ask is not so
+abbrev asked : tie.Else3 → tie.After-size-wrong
+asked c = c .before .before .before
+
+abbrev start : tie.Else3 → tie.Start
+start c = asked c .before .before .before .before
+
+mode-right : (c : tie.Else3) → not (isKind (start c .args .kind)) || not (isShift (start c .args .shift)) ≡ false
+mode-right c =
+    let s = asked c .before .before in
+    (λ i. not (sym (s .before .is-kind .ensures) i) || not (sym (s .is-shift .ensures) i)) ∙ c .before .before .if1 .left
+
+drawn : (c : tie.Else3) → isRetired (start c .args .kind) ≡ false
+drawn c = sym (asked c .before .is-retired .ensures) ∙ c .before .if2 .left
+
+size-right : (c : tie.Else3) → sizeWrong (start c .args .width) (start c .args .height) ≡ false
+size-right c = sym (asked c .size-wrong .ensures) ∙ c .if3 .left
+
+small : (c : tie.Else3) → start c .args .width * start c .args .height ≤ 1048576
+small c = sized _ _ (size-right c) .2
+
+lengths-right : (c : tie.Else4) → let a = start (c .before .before) .args in lengthsWrong (a .kind) (a .width * a .height) (a .s) ≡ false
+lengths-right c = sym (c .before .lengths-wrong .ensures) ∙ c .if4 .left
 
 mul-size : tie.Need-mul-size
 mul-size c = let h = small c in omega arith
