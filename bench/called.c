@@ -42,7 +42,9 @@ enum { row_count = sizeof rows / sizeof *rows };
 
 static uint8_t reduction[256], scale[256], pixels[4 * most], palette[4 * 16];
 static uint8_t places[4 * most], indices[most], out[4 * most];
-static float oklab[3 * most], cells[3 * most];
+static float oklab[3 * most];
+// With room for as many floats: an archive of before request 11 takes the same length for that of floats.
+static _Alignas(float) int16_t cells[2 * 3 * most];
 
 static uint8_t random_byte(void) {
     static uint32_t state = 4;

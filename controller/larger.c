@@ -15,7 +15,8 @@ enum { SIDE = 64, PIXELS = SIDE * SIDE, ENTRIES = 65536 };
 
 static uint8_t reduction[256], scale[256], palette[4 * 256], pixels[4 * ENTRIES], indices[PIXELS], out[4 * PIXELS];
 static uint8_t places[4 * ENTRIES], file[4 * PIXELS + 128];
-static float cells[3 * PIXELS], oklab[3 * ENTRIES];
+static float oklab[3 * ENTRIES];
+static int16_t cells[3 * PIXELS];
 
 static uint64_t state;
 

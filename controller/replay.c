@@ -59,6 +59,18 @@ static void expect_floats(const float *floats, size_t count)
     keep(floats, 4 * count);
 }
 
+/* So are error cells, of which the list has two bytes each. */
+static void expect_cells(const int16_t *values, size_t count)
+{
+    Part p = part(next++);
+    same = same && p.len == 2 * count;
+    for (size_t i = 0; same && i < count; i++) {
+        const uint8_t bytes[2] = {(uint8_t)((uint16_t)values[i] >> 8), (uint8_t)values[i]};
+        same = memcmp(p.bytes + 2 * i, bytes, 2) == 0;
+    }
+    keep(values, 2 * count);
+}
+
 /* What is behind a pointer before a call. A refusal has nothing recorded for it, and leaves it. */
 enum { BEFORE = 0x5eed5eed };
 
@@ -153,16 +165,29 @@ static void pick(void)
 
 /* ---- lookups */
 
-enum { FLOATS = 4096, BYTES = 4096 };
+enum { FLOATS = 4096, CELLS = 4096, BYTES = 4096 };
 
-static float oklab[FLOATS], cells[FLOATS];
+static float oklab[FLOATS];
 static uint8_t places[BYTES], indices[BYTES], out[BYTES];
+
+/* Error cells are lent at an address that is even and no multiple of four, as a caller's may be: an instruction that takes two
+ * words or more at a time would end the board's run there. In larger.c they are at a multiple of four. */
+static _Alignas(4) int16_t cell_room[1 + CELLS];
+static int16_t *const cells = cell_room + 1;
 
 /* Copies floats into a buffer to be lent. */
 static size_t lend_floats(size_t k, float *buffer)
 {
     size_t count = floats_of(k, buffer, FLOATS);
     same = same && part(k).len == 4 * count;
+    return count;
+}
+
+/* Copies error cells to where they are lent. */
+static size_t lend_cells(size_t k)
+{
+    size_t count = sixteenths_of(k, cells, CELLS);
+    same = same && part(k).len == 2 * count;
     return count;
 }
 
@@ -237,12 +262,12 @@ static void candidate_colors_in(void)
 /* q: reduction scale shift kind width height palette pixels indices out cells | number indices out cells */
 static void quantize_pixels(void)
 {
-    size_t indices_len = lend_bytes(8, indices), out_len = lend_bytes(9, out), cells_len = lend_floats(10, cells);
+    size_t indices_len = lend_bytes(8, indices), out_len = lend_bytes(9, out), cells_len = lend_cells(10);
     expect_number(badge_quantize_pixels(word(2), word(3), word(4), word(5), TABLES, part(6).bytes, part(6).len, part(7).bytes,
                                         part(7).len, indices, indices_len, out, out_len, cells, cells_len));
     expect(indices, indices_len);
     expect(out, out_len);
-    expect_floats(cells, cells_len);
+    expect_cells(cells, cells_len);
 }
 
 /*
@@ -253,7 +278,7 @@ static void dither_to_mode(void)
 {
     uint32_t count = BEFORE, tile = BEFORE;
     size_t places_len = lend_bytes(14, places), oklab_len = lend_floats(15, oklab);
-    size_t out_len = lend_bytes(16, out), cells_len = lend_floats(17, cells);
+    size_t out_len = lend_bytes(16, out), cells_len = lend_cells(17);
     uint32_t n = badge_dither_to_mode(word(2), word(3), word(4), word(5), word(6), word(7), word(8), word(9), word(10),
                                       word(11), byte_of(12, 0), byte_of(12, 1), byte_of(12, 2), byte_of(12, 3), TABLES,
                                       part(13).bytes, part(13).len, places, places_len, oklab, oklab_len, out, out_len, cells,
@@ -264,7 +289,7 @@ static void dither_to_mode(void)
     expect(places, places_len);
     expect_floats(oklab, oklab_len);
     expect(out, out_len);
-    expect_floats(cells, cells_len);
+    expect_cells(cells, cells_len);
 }
 
 /* ---- the calls by their letters, with how many tokens a case has, and where the recorded answer begins */

@@ -114,3 +114,15 @@ size_t floats_of(size_t k, float *out, size_t most)
     }
     return p.len / 4;
 }
+
+size_t sixteenths_of(size_t k, int16_t *out, size_t most)
+{
+    Part p = part(k);
+    if (p.len / 2 > most)
+        return 0;
+    for (size_t i = 0; i < p.len / 2; i++) {
+        uint16_t bits = (uint16_t)number_of((Part){p.bytes + 2 * i, 2});
+        memcpy(out + i, &bits, 2);
+    }
+    return p.len / 2;
+}

@@ -35,7 +35,9 @@ uint32_t word(size_t k);
 /* Byte i of token k, 0 where there is none. */
 uint8_t byte_of(size_t k, size_t i);
 
-/* Copies the floats of token k. Answers how many there are, or none where they are more than `most`. */
+/* Copies the floats of token k, or its error cells, which are two bytes each and may be negative. Answers how many there are,
+ * or none where they are more than `most`. */
 size_t floats_of(size_t k, float *out, size_t most);
+size_t sixteenths_of(size_t k, int16_t *out, size_t most);
 
 #endif

@@ -55,7 +55,7 @@ void lent_begin(bool guarded)
     }
 }
 
-/* Rubbish: in floats, patterns of every kind. */
+/* Rubbish: in floats and in error cells, patterns of every kind. */
 static void fill_rubbish(uint8_t *at, size_t bytes)
 {
     size_t i = 0;

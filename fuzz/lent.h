@@ -3,7 +3,8 @@
  *
  * In the guarded way a buffer ends at a page that may not be touched, or begins after one, and what a call should only read is
  * given to it through a read-only view of the memory: an access of the archive outside a buffer, or a write into an input,
- * ends the program at once. In the heap way each is a block of malloc, for checkers that watch the heap.
+ * ends the program at once. A buffer that ends there begins where its length puts it, at a multiple of its elements' size and
+ * often of no more. In the heap way each is a block of malloc, for checkers that watch the heap.
  */
 #ifndef LENT_H
 #define LENT_H

@@ -1,7 +1,6 @@
 /* What the three calls on pictures share. See picture.h. */
 #include "picture.h"
 
-#include <math.h>
 #include <stdlib.h>
 #include <string.h>
 
@@ -111,17 +110,29 @@ void check_overflow(const Rooms *rooms)
     check(is_zero(rooms->places) && unchanged_but(NAMED(rooms->places)), "what too many candidates leave");
 }
 
+/* How many cells are lent: now and again as many as they should have bytes, or some for a kind that takes none. */
+static size_t make_cell_count(uint32_t kind, size_t pixels)
+{
+    bool wrong = once_in(30);
+    if (is_diffusion(kind))
+        return wrong ? 6 * pixels : make_length(3 * pixels);
+    return wrong ? 3 * pixels : make_length(0);
+}
+
 Lent *make_cells(uint32_t kind, size_t pixels)
 {
-    return lend_to_write(make_length(is_diffusion(kind) ? 3 * pixels : 0), sizeof(float));
+    static const int16_t ends[] = {INT16_MIN, -4081, -4080, -1, 0, 1, 4080, 4081, INT16_MAX};
+    Lent *lent = lend_to_write(make_cell_count(kind, pixels), sizeof(int16_t));
+    int16_t *cells = lent->fill;
+    for (size_t i = 0; i < lent->len; i++)
+        if (once_in(8)) /* the rubbish seldom has them */
+            cells[i] = ends[below(sizeof ends / sizeof ends[0])];
+    return lent;
 }
 
 void check_cells(const Lent *lent)
 {
-    const float *cells = lent->fill;
-    for (size_t i = 0; i < lent->len; i++) {
-        float sixteenths = 16.0f * cells[i];
-        check(fabsf(sixteenths) <= 4080.0f && sixteenths == truncf(sixteenths), "an error cell");
-        check(cells[i] != 0.0f || !signbit(cells[i]), "an error cell of minus zero");
-    }
+    const int16_t *cells = lent->fill;
+    for (size_t i = 0; i < lent->len; i++)
+        check(cells[i] >= -4080 && cells[i] <= 4080, "an error cell");
 }

@@ -49,10 +49,11 @@ void check_overflow(const Rooms *rooms);
 /* The candidates and their Oklab colours stand in front, and what is after them is as it was. */
 void check_rooms(const Rooms *rooms, const Lent *scale);
 
-/* Cells to lend to a picture for its kind. */
+/* Cells to lend to a picture for its kind. They hold any sixteen bits, the ends of a cell's width and of its bounds often among
+ * them: what is lent plays no part. */
 Lent *make_cells(uint32_t kind, size_t pixels);
 
-/* Error cells are exact sixteenths from -255 to 255, and none is minus zero. */
+/* Error cells count sixteenths, and none is further than 255 from 0. */
 void check_cells(const Lent *lent);
 
 #endif

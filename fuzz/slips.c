@@ -19,12 +19,12 @@
 #define TABLES const uint8_t *reduction, size_t reduction_len, const uint8_t *scale, size_t scale_len
 #define QUANTIZE                                                                                                             \
     SIZES, TABLES, const uint8_t *palette, size_t palette_len, const uint8_t *pixels, size_t pixels_len, uint8_t *indices,   \
-        size_t indices_len, uint8_t *out, size_t out_len, float *cells, size_t cells_len
+        size_t indices_len, uint8_t *out, size_t out_len, int16_t *cells, size_t cells_len
 #define TO_MODE                                                                                                              \
     SIZES, uint32_t origin_x, uint32_t origin_y, uint32_t tile_width, uint32_t tile_height, uint32_t limit,                  \
         uint32_t has_zero, uint8_t zero_r, uint8_t zero_g, uint8_t zero_b, uint8_t zero_a, TABLES, const uint8_t *pixels,    \
         size_t pixels_len, uint8_t *places, size_t places_len, float *oklab, size_t oklab_len, uint8_t *out, size_t out_len, \
-        float *cells, size_t cells_len, uint32_t *count, uint32_t *tile
+        int16_t *cells, size_t cells_len, uint32_t *count, uint32_t *tile
 
 #define SIDES uint32_t width, uint32_t height
 #define PAM_SIZE const uint8_t *file, size_t file_len, uint32_t *width, uint32_t *height
@@ -83,6 +83,25 @@ static void write_again(const uint8_t *at)
     *byte = *byte;
 }
 
+static void write_cell_again(int16_t *at)
+{
+    volatile int16_t *cell = at;
+    *cell = *cell;
+}
+
+/* Reads four bytes, as many as a float has, where a cell is. */
+static void read_wide(const int16_t *at)
+{
+    for (size_t i = 0; i < 4; i++)
+        read_byte((const uint8_t *)at + i);
+}
+
+/* The last cell as it is lent, 0 where there is none. */
+static int16_t last_of(const int16_t *cells, size_t cells_len)
+{
+    return cells_len != 0 ? cells[cells_len - 1] : 0;
+}
+
 /* The last entry of a list that is the same as entry k, each of so many bytes. */
 static size_t last_twin(const void *list, size_t bytes, size_t entries, size_t k)
 {
@@ -98,6 +117,15 @@ static size_t last_twin(const void *list, size_t bytes, size_t entries, size_t k
 static uint32_t drawn_as(uint32_t kind, int number, uint32_t retired, uint32_t other)
 {
     return slip() == number && kind == retired ? other : kind;
+}
+
+/* How many cells the archive is told. The slips with these numbers take cells where a kind has none, and as many as the cells
+ * should have bytes. */
+static size_t told(uint32_t kind, size_t pixels, size_t cells_len, int none, int bytes)
+{
+    if (slip() == none && !is_diffusion(kind))
+        return 0;
+    return slip() == bytes && cells_len == 6 * pixels ? cells_len / 2 : cells_len;
 }
 
 uint32_t __wrap_badge_ordered_threshold(THRESHOLD)
@@ -129,9 +157,10 @@ uint32_t __wrap_badge_pick(PICK)
 uint32_t __wrap_badge_quantize_pixels(QUANTIZE)
 {
     uint32_t given = drawn_as(kind, 45, BADGE_STIPPLE_H, BADGE_LINE_H); /* kind 6 still drawn */
+    int16_t lent = last_of(cells, cells_len);
     uint32_t number = __real_badge_quantize_pixels(shift, given, width, height, reduction, reduction_len, scale, scale_len,
                                                    palette, palette_len, pixels, pixels_len, indices, indices_len, out,
-                                                   out_len, cells, cells_len);
+                                                   out_len, cells, told(kind, indices_len, cells_len, 60, 61));
     bool accepted = number == BADGE_ACCEPTED, length = number == BADGE_REFUSED_LENGTH;
     bool retired = number == BADGE_REFUSED_RETIRED_KIND;
     switch (slip()) {
@@ -141,7 +170,7 @@ uint32_t __wrap_badge_quantize_pixels(QUANTIZE)
     case 4: if (accepted) write_again(reduction); break;           /* writes to an input */
     case 5: if (length && out_len) out[0] ^= 1; break;             /* changes a buffer where it refuses */
     case 6: if (length) number = BADGE_REFUSED_ENTRIES; break;     /* another number */
-    case 7: if (accepted && cells_len) cells[0] = -0.0f; break;
+    case 7: if (accepted && cells_len) cells[0] = 4081; break;     /* a cell beyond its bound */
     case 8: if (accepted && indices_len) indices[indices_len - 1] ^= 1; break;
     case 33: /* a later twin of the palette */
         if (accepted && indices_len) indices[0] = (uint8_t)last_twin(palette, 4, palette_len / 4, indices[0]);
@@ -149,6 +178,12 @@ uint32_t __wrap_badge_quantize_pixels(QUANTIZE)
     case 46: if (is_retired(kind) && shift_wrong(shift)) number = BADGE_REFUSED_RETIRED_KIND; break; /* 15 before 1 */
     case 47: if (retired && size_wrong(width, height)) number = BADGE_REFUSED_SIZE; break;           /* 2 before 15 */
     case 48: if (retired && out_len) out[0] ^= 1; break; /* changes a buffer where it refuses */
+    case 54: if (accepted && cells_len) cells[cells_len - 1] = INT16_MIN; break;    /* the one that has no opposite */
+    case 55: if (accepted && cells_len) cells[cells_len - 1] += lent; break;        /* begins with what was lent */
+    case 56: if (accepted && cells_len) write_cell_again(cells + cells_len); break; /* writes after the cells */
+    case 57: if (accepted && cells_len) read_wide(cells + cells_len - 1); break;    /* takes a cell for a float */
+    case 58: if (accepted && !is_diffusion(kind)) write_cell_again(cells); break;   /* writes one where there is none */
+    case 59: if (length && cells_len) cells[0] ^= 1; break; /* changes cells where it refuses */
     default: break;
     }
     return number;
@@ -157,17 +192,18 @@ uint32_t __wrap_badge_quantize_pixels(QUANTIZE)
 uint32_t __wrap_badge_dither_to_mode(TO_MODE)
 {
     uint32_t given = drawn_as(kind, 49, BADGE_STIPPLE_V, BADGE_LINE_V); /* kind 5 given to another */
+    int16_t lent = last_of(cells, cells_len);
     uint32_t number = __real_badge_dither_to_mode(
         shift, given, width, height, origin_x, origin_y, tile_width, tile_height, limit, has_zero, zero_r, zero_g, zero_b,
         zero_a, reduction, reduction_len, scale, scale_len, pixels, pixels_len, places, places_len, oklab, oklab_len, out,
-        out_len, cells, cells_len, count, tile);
+        out_len, cells, told(kind, out_len / 4, cells_len, 67, 68), count, tile);
     bool accepted = number == BADGE_ACCEPTED, over = number == BADGE_REFUSED_TILE_OVER;
     bool many = number == BADGE_REFUSED_TOO_MANY_CANDIDATES, retired = number == BADGE_REFUSED_RETIRED_KIND;
     bool origin = origin_wrong(origin_x, width) || origin_wrong(origin_y, height);
     bool tiles = tile_wrong(tile_width, tile_height, limit);
     switch (slip()) {
     case 9: if (many && places_len) places[places_len - 1] = 1; break;  /* does not clear all that it has to */
-    case 10: if (over && cells_len) cells[cells_len - 1] = 1.0f; break; /* nor here */
+    case 10: if (over && cells_len) cells[cells_len - 1] = 1; break;    /* nor here */
     case 11: if (over && places_len) places[places_len - 1] ^= 1; break;
     case 12: if (many) *count = 0; break;                               /* writes behind a pointer where it refuses */
     case 13: if (accepted) *tile ^= 1; break;
@@ -178,6 +214,11 @@ uint32_t __wrap_badge_dither_to_mode(TO_MODE)
     case 51: if (retired && origin) number = BADGE_REFUSED_SIZE; break;                              /* 2 before 15 */
     case 52: if (retired && tiles) number = BADGE_REFUSED_TILES; break;                              /* 5 before 15 */
     case 53: if (retired) *count = 0; break; /* writes behind a pointer where it refuses */
+    case 62: if (accepted && cells_len) cells[cells_len - 1] = -4081; break;
+    case 63: if (accepted && cells_len) write_cell_again(cells - 1); break; /* writes before the cells */
+    case 64: if (over && cells_len) cells[cells_len - 1] = lent; break;     /* clears as many bytes as there are cells */
+    case 65: if (over && cells_len) memset(cells, 0, 4 * cells_len); break; /* clears as many bytes as floats have */
+    case 66: if (many && cells_len) memset(cells, 0, 2 * cells_len); break; /* clears more than it has to */
     default: break;
     }
     return number;

@@ -18,7 +18,8 @@ uint64_t random_state = 1;
 static uint8_t reduction[256], scale[256], palette[4 * 256], pixels[4 * PIXELS], indices[PIXELS], out[4 * PIXELS];
 static uint8_t file[4 * PIXELS + 200];
 static uint8_t places[4 * ENTRIES], colors[4 * ENTRIES], dark[4], light[4] = {31, 31, 31, 255}, chosen[4];
-static float cells[3 * PIXELS], oklab[3 * ENTRIES], list_oklab[3 * ENTRIES];
+static float oklab[3 * ENTRIES], list_oklab[3 * ENTRIES];
+static int16_t cells[3 * PIXELS];
 
 static struct {
     uint32_t kind, shift, side, width, height, limit, tile_side, has_zero;

@@ -87,6 +87,7 @@ static inline bool rooms_wrong(size_t places, size_t oklab)
     return places % 4 != 0 || places / 4 > 65536 || oklab != places / 4 * 3;
 }
 
+/* Error cells: three a pixel where error is passed on. Cells are counted, and not their bytes. */
 static inline bool cells_wrong(size_t cells, uint32_t kind, size_t pixels)
 {
     return cells != (is_diffusion(kind) ? 3 * pixels : 0);

@@ -9,10 +9,10 @@
  * otherwise.
  *
  * Buffers. A buffer is a pointer and, after it, a length (badge_length) that counts elements: bytes of a uint8_t buffer,
- * floats of a float buffer. The pointer may be null where the length is 0. A pointer to a single value is never null. What a
- * call writes must not overlap anything else of the same call; buffers that are only read (const) may share memory. Nothing
- * is kept after a call, and no memory is allocated. badge_nearest, badge_nearest_two and badge_ordered_bracket take at most
- * 1 KiB of stack, other calls at most 16.
+ * floats of a float buffer, cells of an int16_t buffer. The pointer may be null where the length is 0. A pointer to a single
+ * value is never null. What a call writes must not overlap anything else of the same call; buffers that are only read (const)
+ * may share memory. Nothing is kept after a call, and no memory is allocated. badge_nearest, badge_nearest_two and
+ * badge_ordered_bracket take at most 1 KiB of stack, other calls at most 16.
  *
  * Colours. A colour in a buffer is four bytes: red, green, blue, alpha. A reduced colour has a console's own precision, a
  * normalised one is the same colour from 0 to 255. An Oklab colour is three floats: lightness, a, b.
@@ -182,6 +182,10 @@ uint32_t badge_pick(const uint8_t *dark, badge_length dark_len, const uint8_t *l
  * value for each channel value, scale the value from 0 to 255 for each of the console's. A pixel whose alpha is below 128 is
  * transparent. Any other reduces to its red, green and blue through the reduction table, with alpha 255. Normalising sends
  * all four bytes through the scale table. The shift is that of the console's mode: 3, 4 or 5.
+ *
+ * A diffusing kind takes three error cells a pixel, for red, green and blue, 6 bytes in all; other kinds take none. What is
+ * lent may hold anything: every cell starts at 0. On acceptance a cell holds the error that earlier pixels passed on to its
+ * pixel, counted in sixteenths of a channel's step: a whole number from -4,080 to 4,080, which is 255 steps either way.
  */
 
 /*
@@ -211,8 +215,8 @@ uint32_t badge_candidate_colors_in(uint32_t shift, uint32_t width, uint32_t heig
  * Lengths: reduction and scale 256; palette 4 an entry; pixels and out 4 a pixel; indices 1 a pixel; cells 3 a pixel for a
  * diffusing kind, else 0. Only indices, out and cells are written.
  * Accepts: writes into indices the position of the first entry that equals the colour chosen, and into out that colour,
- * normalised; a transparent pixel gets 0 and four zeros. cells then holds the error that was passed on to each pixel, in
- * red, green and blue, whatever was there before.
+ * normalised; a transparent pixel gets 0 and four zeros. cells then holds the error that was passed on to each pixel,
+ * transparent ones too, in sixteenths.
  * Refuses: KIND_OR_SHIFT, RETIRED_KIND, SIZE, LENGTH, ENTRIES (the palette).
  */
 uint32_t badge_quantize_pixels(uint32_t shift, uint32_t kind, uint32_t width, uint32_t height,
@@ -221,7 +225,7 @@ uint32_t badge_quantize_pixels(uint32_t shift, uint32_t kind, uint32_t width, ui
                                const uint8_t *palette, badge_length palette_len,
                                const uint8_t *pixels, badge_length pixels_len,
                                uint8_t *indices, badge_length indices_len, uint8_t *out, badge_length out_len,
-                               float *cells, badge_length cells_len);
+                               int16_t *cells, badge_length cells_len);
 
 /*
  * Dithers a picture to its own candidates (see badge_candidate_colors_in), and judges its tiles. The picture is a part of a
@@ -238,7 +242,8 @@ uint32_t badge_quantize_pixels(uint32_t shift, uint32_t kind, uint32_t width, ui
  * cells 3 a pixel for a diffusing kind, else 0. Only places, oklab, out and cells are written.
  * Accepts: writes the candidates to the front of places and oklab, as badge_candidate_colors_in does, the chosen colours,
  * normalised, into out (four zeros for a transparent pixel), and how many candidates there are behind count. cells then holds
- * the error that was passed on to each pixel, whatever was there before. What is behind tile is as it was.
+ * the error that was passed on to each pixel, transparent ones and those of colour zero too, in sixteenths. What is behind
+ * tile is as it was.
  * Refuses: KIND_OR_SHIFT, RETIRED_KIND, SIZE, LENGTH (also for more than 65,536 places), TILES, TOO_MANY_CANDIDATES,
  * TILE_OVER. After TOO_MANY_CANDIDATES all of places is 0 and the rest as it was. After TILE_OVER places, oklab and what is
  * behind count are as on acceptance, out and cells are all 0, and the number of the first tile over its limit is behind tile.
@@ -250,7 +255,7 @@ uint32_t badge_dither_to_mode(uint32_t shift, uint32_t kind, uint32_t width, uin
                               const uint8_t *scale, badge_length scale_len,
                               const uint8_t *pixels, badge_length pixels_len, uint8_t *places, badge_length places_len,
                               float *oklab, badge_length oklab_len, uint8_t *out, badge_length out_len,
-                              float *cells, badge_length cells_len, uint32_t *count, uint32_t *tile);
+                              int16_t *cells, badge_length cells_len, uint32_t *count, uint32_t *tile);
 
 /*
  * The calls below read and write PAM files, in the layout of Netpbm's document "pam".

@@ -1,6 +1,7 @@
 //! The port beside an older archive of it, in one run, for a change that must not
 //! make a call slower. The older one needs the C interface as it is now, as far as
-//! the measured calls go; a bracket without positions will do.
+//! the measured calls go; a bracket without positions will do, and so will cells
+//! that are floats.
 
 use std::path::{Path, PathBuf};
 

@@ -20,9 +20,24 @@ pub const BAYER: Kind = (3, Dither::Bayer8x8, "Bayer 8x8");
 pub const ATKINSON: Kind = (9, Dither::Atkinson, "Atkinson");
 pub const FLOYD_STEINBERG: Kind = (10, Dither::FloydSteinberg, "Floyd-Steinberg");
 
-/// Cells lent for a kind: three a pixel for diffusion, else none.
-fn cells(kind: u32, count: usize) -> Vec<f32> {
-    vec![0.0; if kind >= 9 { 3 * count } else { 0 }]
+/// The cells of a call: three a pixel for diffusion, else none. They are lent as
+/// counts of sixteenths, of 16 bits each. An archive of before request 11 takes the
+/// same number for that of floats and writes twice the bytes, so there is room for
+/// these, aligned as floats are: one call fits both. What is written is not looked at.
+struct Cells {
+    room: Vec<f32>,
+}
+
+impl Cells {
+    fn of(kind: u32, count: usize) -> Cells {
+        Cells { room: vec![0.0; if kind >= 9 { 3 * count } else { 0 }] }
+    }
+
+    fn lent(&mut self) -> &mut [i16] {
+        // SAFETY: as many counts lie in the first half of the room, which nothing else
+        // uses meanwhile, and any bytes are counts.
+        unsafe { std::slice::from_raw_parts_mut(self.room.as_mut_ptr().cast(), self.room.len()) }
+    }
 }
 
 /// The conversion of each colour alone, by some way to convert one.
@@ -55,9 +70,9 @@ pub fn quantize_pixels<'a>(
         black_box(dither::quantize_pixels(Mode::Snes, &reduced, width, height, dither, rounding, color_at));
     };
     let case = Quantize { shift: 3, kind, width, height, ..Quantize::default() };
-    let (mut indices, mut out, mut cells) = (vec![0; count], vec![0; 4 * count], cells(kind, count));
+    let (mut indices, mut out, mut cells) = (vec![0; count], vec![0; 4 * count], Cells::of(kind, count));
     let ported = move || {
-        let number = port.quantize_pixels(&case, subject.read(palette), &mut indices, &mut out, &mut cells);
+        let number = port.quantize_pixels(&case, subject.read(palette), &mut indices, &mut out, cells.lent());
         assert_eq!(number, 0);
     };
     (original, ported)
@@ -78,9 +93,9 @@ pub fn dither_to_mode<'a>(
     let (width, height) = (subject.width, subject.height);
     let case = ToMode { shift: 3, kind, width, height, tile: [8, 8], limit: 256, ..ToMode::default() };
     let (mut places, mut oklab, mut out) = (vec![0; 4 * found], vec![0.0; 3 * found], vec![0; 4 * count]);
-    let mut cells = cells(kind, count);
+    let mut cells = Cells::of(kind, count);
     let ported = move || {
-        let rooms = Rooms { places: &mut places, oklab: &mut oklab, out: &mut out, cells: &mut cells };
+        let rooms = Rooms { places: &mut places, oklab: &mut oklab, out: &mut out, cells: cells.lent() };
         let number = port.dither_to_mode(&case, subject.read(&[]), rooms, &mut 0, &mut 0);
         assert_eq!(number, 0);
     };

@@ -28,12 +28,12 @@ mod c {
     ) -> u32;
     pub type QuantizePixels = unsafe extern "C" fn(
         u32, u32, u32, u32, Bytes, usize, Bytes, usize, Bytes, usize, Bytes, usize,
-        *mut u8, usize, *mut u8, usize, *mut f32, usize,
+        *mut u8, usize, *mut u8, usize, *mut i16, usize,
     ) -> u32;
     pub type DitherToMode = unsafe extern "C" fn(
         u32, u32, u32, u32, u32, u32, u32, u32, u32, u32, u8, u8, u8, u8,
         Bytes, usize, Bytes, usize, Bytes, usize,
-        *mut u8, usize, *mut f32, usize, *mut u8, usize, *mut f32, usize, *mut u32, *mut u32,
+        *mut u8, usize, *mut f32, usize, *mut u8, usize, *mut i16, usize, *mut u32, *mut u32,
     ) -> u32;
 }
 
@@ -52,7 +52,9 @@ impl Library {
     pub fn of(loaded: &Loaded) -> Result<Library, String> {
         // SAFETY: the functions have these types by the C header. An archive of
         // before request 4 has a bracket without the last two pointers: C's ways
-        // of calling leave arguments that are not asked for where they are.
+        // of calling leave arguments that are not asked for where they are. One of
+        // before request 11 takes the cells for floats: pointers go over alike, and
+        // the cells that are lent have room for as many of these (`calls`).
         unsafe {
             Ok(Library {
                 to_oklab: loaded.function("badge_to_oklab")?,
@@ -130,7 +132,7 @@ impl Port for Library {
     }
 
     fn quantize_pixels(
-        &self, case: &Quantize, read: Read, indices: &mut [u8], out: &mut [u8], cells: &mut [f32],
+        &self, case: &Quantize, read: Read, indices: &mut [u8], out: &mut [u8], cells: &mut [i16],
     ) -> u32 {
         let Quantize { shift, kind, width, height, .. } = *case;
         unsafe {

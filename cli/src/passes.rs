@@ -40,8 +40,8 @@ impl Places {
     }
 }
 
-fn cells(kind: u32, count: usize) -> Vec<f32> {
-    vec![0.0; if kind::is_diffusion(kind) { 3 * count } else { 0 }]
+fn cells(kind: u32, count: usize) -> Vec<i16> {
+    vec![0; if kind::is_diffusion(kind) { 3 * count } else { 0 }]
 }
 
 fn drawn_into(picture: Picture, pixels: Vec<u8>) -> Image {

@@ -53,7 +53,7 @@ static int show_kind(const char *name, uint32_t kind)
 {
     static const uint8_t palette[] = {0, 0, 0, 255, 10, 10, 10, 255, 21, 21, 21, 255, 31, 31, 31, 255};
     static uint8_t indices[PIXELS], out[4 * PIXELS];
-    static float cells[3 * PIXELS];
+    static int16_t cells[3 * PIXELS];
     size_t cells_len = kind == BADGE_ATKINSON || kind == BADGE_FLOYD_STEINBERG ? COUNT(cells) : 0;
 
     uint32_t number = badge_quantize_pixels(SHIFT, kind, WIDTH, HEIGHT, reduction, COUNT(reduction), scale, COUNT(scale),

@@ -41,10 +41,10 @@ int main(void)
     uint32_t (*candidates)(uint32_t, uint32_t, uint32_t, bytes, length, bytes, length, bytes, length, uint8_t *, length,
                            float *, length, uint32_t *) = badge_candidate_colors_in;
     uint32_t (*quantize)(uint32_t, uint32_t, uint32_t, uint32_t, bytes, length, bytes, length, bytes, length, bytes, length,
-                         uint8_t *, length, uint8_t *, length, float *, length) = badge_quantize_pixels;
+                         uint8_t *, length, uint8_t *, length, int16_t *, length) = badge_quantize_pixels;
     uint32_t (*to_mode)(uint32_t, uint32_t, uint32_t, uint32_t, uint32_t, uint32_t, uint32_t, uint32_t, uint32_t, uint32_t,
                         uint8_t, uint8_t, uint8_t, uint8_t, bytes, length, bytes, length, bytes, length, uint8_t *, length,
-                        float *, length, uint8_t *, length, float *, length, uint32_t *, uint32_t *) = badge_dither_to_mode;
+                        float *, length, uint8_t *, length, int16_t *, length, uint32_t *, uint32_t *) = badge_dither_to_mode;
     uint32_t (*pam_size)(bytes, length, uint32_t *, uint32_t *) = badge_pam_size;
     uint32_t (*read_pam)(bytes, length, uint8_t *, length, uint32_t *, uint32_t *) = badge_read_pam;
     uint32_t (*pam_length)(uint32_t, uint32_t, uint64_t *) = badge_pam_length;

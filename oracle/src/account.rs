@@ -24,7 +24,8 @@ impl Account {
     }
 }
 
-/// 16 * source + cell: what a pixel has to spend, in sixteenths.
+/// 16 * source + cell: what a pixel has to spend, in sixteenths. The cell is read as
+/// it stands: it counts them.
 pub fn held(pixel: &Pixel, channel: usize) -> i64 {
     16 * i64::from(pixel.source[channel]) + i64::from(pixel.cell[channel])
 }

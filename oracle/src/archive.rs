@@ -63,7 +63,7 @@ mod c {
             shift: u32, kind: u32, width: u32, height: u32,
             reduction: Bytes, n1: usize, scale: Bytes, n2: usize,
             palette: Bytes, n3: usize, pixels: Bytes, n4: usize,
-            indices: *mut u8, n5: usize, out: *mut u8, n6: usize, cells: *mut f32, n7: usize,
+            indices: *mut u8, n5: usize, out: *mut u8, n6: usize, cells: *mut i16, n7: usize,
         ) -> u32;
         #[cfg(has_badge_dither_to_mode)]
         pub fn badge_dither_to_mode(
@@ -72,7 +72,7 @@ mod c {
             has_zero: u32, zero_r: u8, zero_g: u8, zero_b: u8, zero_a: u8,
             reduction: Bytes, n1: usize, scale: Bytes, n2: usize, pixels: Bytes, n3: usize,
             places: *mut u8, n4: usize, oklab: *mut f32, n5: usize,
-            out: *mut u8, n6: usize, cells: *mut f32, n7: usize,
+            out: *mut u8, n6: usize, cells: *mut i16, n7: usize,
             count: *mut u32, tile: *mut u32,
         ) -> u32;
     }
@@ -241,7 +241,7 @@ impl Port for Archive {
         read: Read,
         indices: &mut [u8],
         out: &mut [u8],
-        cells: &mut [f32],
+        cells: &mut [i16],
     ) -> u32 {
         #[cfg(has_badge_quantize_pixels)]
         return unsafe {

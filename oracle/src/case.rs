@@ -121,7 +121,7 @@ pub struct Quantize {
     pub pixels: Vec<u8>,
     pub indices: Vec<u8>,
     pub out: Vec<u8>,
-    pub cells: Vec<f32>,
+    pub cells: Vec<i16>,
 }
 
 #[derive(Debug, Clone, Default)]
@@ -140,7 +140,7 @@ pub struct ToMode {
     pub places: Vec<u8>,
     pub oklab: Vec<f32>,
     pub out: Vec<u8>,
-    pub cells: Vec<f32>,
+    pub cells: Vec<i16>,
 }
 
 /// A lookup in a list, with the width of those that have one.
@@ -231,7 +231,8 @@ impl Case {
 }
 
 /// One named part of an answer. Floats are kept as their bits, so that NaN and
-/// minus zero compare. A value behind a pointer is none where it was not written.
+/// minus zero compare; cells are whole numbers, which compare as they are. A value
+/// behind a pointer is none where it was not written.
 #[derive(Debug, Clone, PartialEq, Eq)]
 pub enum Value {
     Number(u32),
@@ -240,6 +241,7 @@ pub enum Value {
     Float(Option<u32>),
     Bytes(Vec<u8>),
     Floats(Vec<u32>),
+    Cells(Vec<i16>),
 }
 
 impl Value {
@@ -253,6 +255,10 @@ impl Value {
 
     pub fn bytes(bytes: &[u8]) -> Value {
         Value::Bytes(bytes.to_vec())
+    }
+
+    pub fn cells(counts: &[i16]) -> Value {
+        Value::Cells(counts.to_vec())
     }
 }
 

@@ -25,7 +25,7 @@ pub fn quantize(kind: u32, palette: &[[u8; 4]], pixels: &[[u8; 4]]) -> Case {
         pixels: pixels.concat(),
         indices: vec![0xee; pixels.len()],
         out: vec![0xed; 4 * pixels.len()],
-        cells: vec![7.5; cells],
+        cells: vec![0x5eed; cells],
     })
 }
 
@@ -48,7 +48,7 @@ pub fn to_mode(kind: u32, tile_width: u32, limit: u32, pixels: &[[u8; 4]]) -> Ca
         places: vec![0xee; 16],
         oklab: vec![7.5; 12],
         out: vec![0xed; 4 * pixels.len()],
-        cells: vec![7.5; cells],
+        cells: vec![0x5eed; cells],
     })
 }
 

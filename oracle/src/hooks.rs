@@ -1,5 +1,6 @@
 //! What the hooked copy of the original asks for on this thread: the lent
-//! tables, and a place for the error cells that a picture leaves.
+//! tables, and a place for the error cells that a picture leaves, in f32 as the
+//! original has them.
 
 use std::cell::RefCell;
 

@@ -9,6 +9,7 @@ include!(concat!(env!("OUT_DIR"), "/hooked.rs"));
 pub mod account;
 pub mod archive;
 pub mod case;
+pub mod cells;
 pub mod drive;
 pub mod examples;
 pub mod generate;

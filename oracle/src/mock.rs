@@ -145,12 +145,13 @@ impl Port for Mock {
         read: Read,
         indices: &mut [u8],
         out: &mut [u8],
-        cells: &mut [f32],
+        cells: &mut [i16],
     ) -> u32 {
         let number = self.quantize_number(case, read, [indices.len(), out.len(), cells.len()]);
         if !self.writes(number) {
             if number != 0 {
                 self.leave(number, out);
+                self.leave_cells(number, cells);
             }
             return number;
         }
@@ -178,10 +179,12 @@ impl Port for Mock {
         if !self.writes(number) {
             if number != 0 {
                 self.leave(number, rooms.out);
+                self.leave_cells(number, rooms.cells);
             }
             return number;
         }
         let Some(candidates) = self.collect(read, rooms.places, rooms.oklab) else {
+            self.leave_cells(7, rooms.cells);
             return 7;
         };
         let found = candidates.len();

@@ -226,7 +226,7 @@ pub struct Picture<'a> {
     pub bracket_width: u64,
 }
 
-/// One pixel as drawn. Cells are sixteenths.
+/// One pixel as drawn. Cells are counts of sixteenths, as a call's are.
 #[derive(Debug, Clone, Copy, Default)]
 pub struct Pixel {
     /// The chosen reduced colour; none where the pixel is transparent.
@@ -234,7 +234,7 @@ pub struct Pixel {
     /// Whether the choice was by dithering.
     pub dithered: bool,
     pub source: [u8; 3],
-    pub cell: [i32; 3],
+    pub cell: [i16; 3],
     pub biased: [u8; 3],
     /// Biased less the normalised choice.
     pub residual: [i32; 3],
@@ -269,9 +269,9 @@ impl Picture<'_> {
     }
 
     /// What earlier dithered pixels send to pixel `i`, gathered.
-    fn cell(&self, drawn: &[Pixel], i: usize) -> [i32; 3] {
+    fn cell(&self, drawn: &[Pixel], i: usize) -> [i16; 3] {
         let (x, y) = self.place(i);
-        let mut cell = [0; 3];
+        let mut cell = [0i32; 3];
         for &(dx, dy, weight) in kernel(self.kind) {
             let Some(j) = self.at(x - dx, y - dy).filter(|&j| drawn[j].dithered) else {
                 continue;
@@ -280,7 +280,7 @@ impl Picture<'_> {
                 *c += weight * r;
             }
         }
-        cell
+        cell.map(|c| c.try_into().expect("weights add up to 16 at most, and a residual is a byte's"))
     }
 
     fn choose(&self, i: usize, color: [u8; 3]) -> Entry {
@@ -304,7 +304,7 @@ impl Picture<'_> {
         if self.zero.is_some_and(|zero| rgb(zero) == rgb(reduced)) {
             return kept;
         }
-        let biased = std::array::from_fn(|k| rounded(16 * i32::from(source[k]) + cell[k]));
+        let biased = std::array::from_fn(|k| rounded(16 * i32::from(source[k]) + i32::from(cell[k])));
         let choice = self.choose(i, biased);
         let residual = std::array::from_fn(|k| i32::from(biased[k]) - i32::from(choice.normalized[k]));
         Pixel { chosen: Some(choice.reduced), dithered: true, biased, residual, ..kept }
@@ -322,11 +322,11 @@ impl Picture<'_> {
 }
 
 /// The cells as a lent buffer holds them: none for kinds that do not diffuse.
-pub fn cell_floats(kind: u32, drawn: &[Pixel]) -> Vec<f32> {
+pub fn cells_of(kind: u32, drawn: &[Pixel]) -> Vec<i16> {
     if !is_diffusion(kind) {
         return Vec::new();
     }
-    drawn.iter().flat_map(|p| p.cell).map(|c| c as f32 / 16.0).collect()
+    drawn.iter().flat_map(|p| p.cell).collect()
 }
 
 /// Normalised choices, transparent ones zero.
@@ -344,7 +344,7 @@ pub fn candidate_colors_in(tables: &Tables, pixels: &[u8]) -> Vec<Entry> {
 pub struct Quantized {
     pub indices: Vec<u8>,
     pub out: Vec<u8>,
-    pub cells: Vec<f32>,
+    pub cells: Vec<i16>,
     pub drawn: Vec<Pixel>,
 }
 
@@ -376,7 +376,7 @@ pub fn quantize_pixels(
     Quantized {
         indices: drawn.iter().map(index).collect(),
         out: out_bytes(tables, &drawn),
-        cells: cell_floats(kind, &drawn),
+        cells: cells_of(kind, &drawn),
         drawn,
     }
 }
@@ -401,7 +401,7 @@ pub struct Dithered {
     /// The first tile over its limit.
     pub tile: Option<usize>,
     pub out: Vec<u8>,
-    pub cells: Vec<f32>,
+    pub cells: Vec<i16>,
     pub drawn: Vec<Pixel>,
     pub most_colors: usize,
 }
@@ -417,7 +417,7 @@ pub fn dither_to_mode(shift: u32, settings: &Settings, tables: &Tables, pixels: 
         tile: counts.iter().position(|&n| n > limit as usize),
         most_colors: counts.iter().copied().max().unwrap_or(0),
         out: out_bytes(tables, &drawn),
-        cells: cell_floats(kind, &drawn),
+        cells: cells_of(kind, &drawn),
         drawn,
         candidates,
     }

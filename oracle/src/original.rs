@@ -218,6 +218,8 @@ pub fn candidate_colors_in(how: How, width: u32, height: u32, pixels: &[u8]) -> 
     (reduced, lab)
 }
 
+/// The cells are the original's, in whole levels: a call's are counts of sixteenths
+/// (`cells`).
 pub struct Quantized {
     pub indices: Vec<u8>,
     pub out: Vec<u8>,
@@ -244,7 +246,8 @@ pub struct Settings {
     pub zero: Option<Rgba>,
 }
 
-/// Output pixels and cells, or none where a tile is over its limit.
+/// Output pixels and cells as `Quantized` has them, or none where a tile is over its
+/// limit.
 pub fn dither_to_mode(how: How, settings: &Settings, pixels: &[u8]) -> Option<(Vec<u8>, Vec<f32>)> {
     let image = image_of(settings.width, settings.height, settings.origin, pixels);
     let budget = TileBudget { width: settings.tile[0], height: settings.tile[1], max_colors: settings.limit as usize };

@@ -55,7 +55,7 @@ pub trait Port {
         read: Read,
         indices: &mut [u8],
         out: &mut [u8],
-        cells: &mut [f32],
+        cells: &mut [i16],
     ) -> u32;
     fn dither_to_mode(&self, case: &ToMode, read: Read, rooms: Rooms, count: &mut u32, tile: &mut u32) -> u32;
 }
@@ -74,7 +74,7 @@ pub struct Rooms<'a> {
     pub places: &'a mut [u8],
     pub oklab: &'a mut [f32],
     pub out: &'a mut [u8],
-    pub cells: &'a mut [f32],
+    pub cells: &'a mut [i16],
 }
 
 /// Rubbish behind pointers: no call has these as an answer.
@@ -115,41 +115,62 @@ impl Bits for f32 {
     }
 }
 
+/// The margin is no cell that a picture leaves, nor half of a float that was one.
+impl Bits for i16 {
+    const MARGIN: i16 = 0x5ac3;
+    fn bits(self) -> u32 {
+        self.cast_unsigned().into()
+    }
+}
+
 /// A buffer between margins, with which a write outside it is noticed.
 struct Room<T> {
     store: Vec<T>,
+    /// Where the margin behind the buffer begins.
+    end: usize,
 }
 
 const MARGIN: usize = 16;
 
 impl<T: Bits> Room<T> {
     fn new(contents: &[T]) -> Room<T> {
-        let mut store = Vec::with_capacity(contents.len() + 2 * MARGIN);
+        Room::before(contents, MARGIN)
+    }
+
+    /// A buffer before a margin of so many elements.
+    fn before(contents: &[T], margin: usize) -> Room<T> {
+        let end = MARGIN + contents.len();
+        let mut store = Vec::with_capacity(end + margin);
         store.resize(MARGIN, T::MARGIN);
         store.extend_from_slice(contents);
-        store.resize(contents.len() + 2 * MARGIN, T::MARGIN);
-        Room { store }
+        store.resize(end + margin, T::MARGIN);
+        Room { store, end }
     }
 
     fn inner(&self) -> &[T] {
-        &self.store[MARGIN..self.store.len() - MARGIN]
+        &self.store[MARGIN..self.end]
     }
 
     fn inner_mut(&mut self) -> &mut [T] {
-        let end = self.store.len() - MARGIN;
-        &mut self.store[MARGIN..end]
+        &mut self.store[MARGIN..self.end]
     }
 
     /// Nothing around the buffer was written.
     fn margins_kept(&self) -> bool {
-        let end = self.store.len() - MARGIN;
-        self.store[..MARGIN].iter().chain(&self.store[end..]).all(|v| v.bits() == T::MARGIN.bits())
+        self.store[..MARGIN].iter().chain(&self.store[self.end..]).all(|v| v.bits() == T::MARGIN.bits())
     }
 
     /// Neither the buffer nor what is around it was written.
     fn kept(&self, contents: &[T]) -> bool {
         self.margins_kept() && self.inner().iter().map(|v| v.bits()).eq(contents.iter().map(|v| v.bits()))
     }
+}
+
+/// Cells, before a margin that has room for as many floats: an archive of before
+/// document 02's eleventh request writes these, and is to be noticed like any other
+/// port that writes outside what it was lent.
+fn room_of_cells(cells: &[i16]) -> Room<i16> {
+    Room::before(cells, MARGIN + cells.len())
 }
 
 /// Ends the run where a port writes what it may not: no answer is worth
@@ -300,7 +321,7 @@ fn run_quantize_pixels(port: &impl Port, case: &Quantize) -> Answer {
     let parts = [&case.tables.reduction[..], &case.tables.scale, &case.palette, &case.pixels];
     let lent = LentRead::new(parts);
     let [mut indices, mut out] = [&case.indices, &case.out].map(|b| Room::new(b));
-    let mut cells = Room::new(&case.cells);
+    let mut cells = room_of_cells(&case.cells);
     let number = port.quantize_pixels(case, lent.read(), indices.inner_mut(), out.inner_mut(), cells.inner_mut());
     lent.check(parts, Call::QuantizePixels);
     let kept = indices.margins_kept() && out.margins_kept() && cells.margins_kept();
@@ -309,7 +330,7 @@ fn run_quantize_pixels(port: &impl Port, case: &Quantize) -> Answer {
         ("number", Value::Number(number)),
         ("indices", Value::bytes(indices.inner())),
         ("out", Value::bytes(out.inner())),
-        ("cells", Value::floats(cells.inner())),
+        ("cells", Value::cells(cells.inner())),
     ])
 }
 
@@ -317,7 +338,7 @@ fn run_dither_to_mode(port: &impl Port, case: &ToMode) -> Answer {
     let parts = [&case.tables.reduction[..], &case.tables.scale, &[], &case.pixels];
     let lent = LentRead::new(parts);
     let [mut places, mut out] = [&case.places, &case.out].map(|b| Room::new(b));
-    let [mut oklab, mut cells] = [&case.oklab, &case.cells].map(|b| Room::new(b));
+    let (mut oklab, mut cells) = (Room::new(&case.oklab), room_of_cells(&case.cells));
     let [mut count, mut tile] = [RUBBISH; 2];
     let rooms =
         Rooms { places: places.inner_mut(), oklab: oklab.inner_mut(), out: out.inner_mut(), cells: cells.inner_mut() };
@@ -332,7 +353,7 @@ fn run_dither_to_mode(port: &impl Port, case: &ToMode) -> Answer {
         ("places", Value::bytes(places.inner())),
         ("oklab", Value::floats(oklab.inner())),
         ("out", Value::bytes(out.inner())),
-        ("cells", Value::floats(cells.inner())),
+        ("cells", Value::cells(cells.inner())),
     ])
 }
 

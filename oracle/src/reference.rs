@@ -7,10 +7,12 @@
 //! Two things the original does not say. The tile's number after 8 comes from
 //! the model, whose whole pictures the self-check holds to the original; and
 //! whether candidates fit their room is a comparison of two counts. Cells are
-//! the original's own, handed over where its `Ditherer` ends. So are a bracket's
-//! positions: they are read off its answer over numbered records.
+//! the original's own, handed over where its `Ditherer` ends, each read as the count
+//! of sixteenths that it is. So are a bracket's positions: they are read off its
+//! answer over numbered records.
 
 use crate::case::{Answer, Candidates, Case, LentTables, List, Lookup, PickCase, Quantize, ToMode, Value};
+use crate::cells;
 use crate::hooks::Tables;
 use crate::model::{self, is_retired};
 use crate::original::{self, How, Settings};
@@ -66,7 +68,7 @@ fn bad_length(length: usize, each: u64, width: u32, height: u32) -> bool {
     u128::from(each) * u128::from(pixel_count(width, height)) != length as u128
 }
 
-fn bad_cells(cells: &[f32], kind: u32, width: u32, height: u32) -> bool {
+fn bad_cells(cells: &[i16], kind: u32, width: u32, height: u32) -> bool {
     bad_length(cells.len(), if model::is_diffusion(kind) { 3 } else { 0 }, width, height)
 }
 
@@ -214,6 +216,12 @@ fn candidate_colors_in(case: &Candidates) -> Answer {
     answer(if collected.count.is_some() { 0 } else { 7 }, collected)
 }
 
+/// The original's cells as a port must leave them. Where one is no count of
+/// sixteenths there is nothing that a port could be held to, and the run ends.
+fn left_cells(cells: &[f32]) -> Vec<i16> {
+    cells::counts(cells).unwrap_or_else(|wrong| panic!("the original leaves a cell that no port can: {wrong}"))
+}
+
 fn quantize_refusal(case: &Quantize) -> u32 {
     let (width, height) = (case.width, case.height);
     let entries = case.palette.len() / 4;
@@ -236,12 +244,12 @@ fn quantize_refusal(case: &Quantize) -> u32 {
 
 fn quantize_pixels(case: &Quantize) -> Answer {
     let number = quantize_refusal(case);
-    let answer = |indices: &[u8], out: &[u8], cells: &[f32]| {
+    let answer = |indices: &[u8], out: &[u8], cells: &[i16]| {
         Answer(vec![
             ("number", Value::Number(number)),
             ("indices", Value::bytes(indices)),
             ("out", Value::bytes(out)),
-            ("cells", Value::floats(cells)),
+            ("cells", Value::cells(cells)),
         ])
     };
     if number != 0 {
@@ -250,7 +258,7 @@ fn quantize_pixels(case: &Quantize) -> Answer {
     let tables = accepted_tables(&case.tables);
     let how = How::lent(case.shift, &tables);
     let drawn = original::quantize_pixels(how, case.kind, case.width, case.height, &case.palette, &case.pixels);
-    answer(&drawn.indices, &drawn.out, &drawn.cells)
+    answer(&drawn.indices, &drawn.out, &left_cells(&drawn.cells))
 }
 
 fn to_mode_refusal(case: &ToMode) -> u32 {
@@ -283,7 +291,7 @@ pub fn settings_of(case: &ToMode) -> Settings {
     }
 }
 
-fn to_mode_answer(number: u32, tile: Option<u32>, rooms: Collected, out: &[u8], cells: &[f32]) -> Answer {
+fn to_mode_answer(number: u32, tile: Option<u32>, rooms: Collected, out: &[u8], cells: &[i16]) -> Answer {
     Answer(vec![
         ("number", Value::Number(number)),
         ("count", Value::Word32(rooms.count)),
@@ -291,7 +299,7 @@ fn to_mode_answer(number: u32, tile: Option<u32>, rooms: Collected, out: &[u8], 
         ("places", Value::Bytes(rooms.places)),
         ("oklab", Value::floats(&rooms.oklab)),
         ("out", Value::bytes(out)),
-        ("cells", Value::floats(cells)),
+        ("cells", Value::cells(cells)),
     ])
 }
 
@@ -309,11 +317,11 @@ fn dither_to_mode(case: &ToMode) -> Answer {
     }
     let settings = settings_of(case);
     match original::dither_to_mode(how, &settings, &case.pixels) {
-        Some((out, cells)) => to_mode_answer(0, None, rooms, &out, &cells),
+        Some((out, cells)) => to_mode_answer(0, None, rooms, &out, &left_cells(&cells)),
         None => {
             let model = model::dither_to_mode(case.shift, &settings, &tables, &case.pixels);
             let tile = model.tile.expect("the original says that a tile is over its limit, the model does not");
-            let zeros = (vec![0; case.out.len()], vec![0.0; case.cells.len()]);
+            let zeros = (vec![0; case.out.len()], vec![0; case.cells.len()]);
             to_mode_answer(8, Some(tile as u32), rooms, &zeros.0, &zeros.1)
         }
     }

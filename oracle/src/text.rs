@@ -15,6 +15,11 @@ fn float_hex(values: &[f32]) -> String {
     hex(&values.iter().flat_map(|v| v.to_bits().to_be_bytes()).collect::<Vec<u8>>())
 }
 
+/// A cell has four digits, of its 16 bits in two's complement: -8 is fff8.
+fn cell_hex(counts: &[i16]) -> String {
+    hex(&counts.iter().flat_map(|c| c.to_be_bytes()).collect::<Vec<u8>>())
+}
+
 fn words(values: &[u32]) -> Vec<String> {
     values.iter().map(|v| hex(&v.to_be_bytes())).collect()
 }
@@ -48,14 +53,14 @@ pub fn input_tokens(case: &Case) -> Vec<String> {
         }
         Case::QuantizePixels(c) => [
             words(&[c.shift, c.kind, c.width, c.height]),
-            vec![hex(&c.palette), hex(&c.pixels), hex(&c.indices), hex(&c.out), float_hex(&c.cells)],
+            vec![hex(&c.palette), hex(&c.pixels), hex(&c.indices), hex(&c.out), cell_hex(&c.cells)],
         ]
         .concat(),
         Case::DitherToMode(c) => [
             words(&[c.shift, c.kind, c.width, c.height]),
             words(&[c.origin[0], c.origin[1], c.tile[0], c.tile[1], c.limit]),
             vec![hex(&[u8::from(c.has_zero != 0)]), hex(&c.zero), hex(&c.pixels)],
-            vec![hex(&c.places), float_hex(&c.oklab), hex(&c.out), float_hex(&c.cells)],
+            vec![hex(&c.places), float_hex(&c.oklab), hex(&c.out), cell_hex(&c.cells)],
         ]
         .concat(),
     }
@@ -68,6 +73,7 @@ fn value_token(value: &Value) -> String {
         Value::Word64(word) => word.map_or("-".into(), |w| hex(&w.to_be_bytes())),
         Value::Bytes(bytes) => hex(bytes),
         Value::Floats(bits) => hex(&bits.iter().flat_map(|b| b.to_be_bytes()).collect::<Vec<u8>>()),
+        Value::Cells(counts) => cell_hex(counts),
     }
 }
 

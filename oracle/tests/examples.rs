@@ -65,9 +65,9 @@ fn e5_black_and_white() {
 
 #[test]
 fn e6_biased_and_loss() {
-    for (source, cell, biased, lost) in [(10u8, 8, 11, -8), (250, 320, 255, 240)] {
-        assert_eq!(model::rounded(16 * i32::from(source) + cell), biased);
-        assert_eq!(original::rounded(f32::from(source) + cell as f32 / 16.0), biased);
+    for (source, cell, biased, lost) in [(10u8, 8i16, 11, -8), (250, 320, 255, 240)] {
+        assert_eq!(model::rounded(16 * i32::from(source) + i32::from(cell)), biased);
+        assert_eq!(original::rounded(f32::from(source) + f32::from(cell) / 16.0), biased);
         let pixel = Pixel { source: [source; 3], cell: [cell; 3], biased: [biased; 3], ..Pixel::default() };
         assert_eq!(loss(&pixel, 0), lost);
     }
@@ -81,7 +81,7 @@ fn terms(case: &Case) -> [i64; 5] {
     let theirs = expected(case);
     assert_eq!(theirs.0[1].1, Value::Bytes(ours.indices));
     assert_eq!(theirs.0[2].1, Value::Bytes(ours.out));
-    assert_eq!(theirs.0[3].1, Value::floats(&ours.cells));
+    assert_eq!(theirs.0[3].1, Value::Cells(ours.cells));
     let picture = bare(c.kind, [c.width, c.height], &tables);
     let all: Vec<[i64; 5]> = (0..3)
         .map(|channel| {

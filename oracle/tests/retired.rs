@@ -50,7 +50,7 @@ fn refused(kind: u32) -> Vec<Case> {
         pick(kind, 5),
         Case::QuantizePixels(Quantize { width: 4097, ..fine.clone() }),
         Case::QuantizePixels(Quantize { out: vec![7; 15], ..fine.clone() }),
-        Case::QuantizePixels(Quantize { cells: vec![0.5; 12], ..fine.clone() }),
+        Case::QuantizePixels(Quantize { cells: vec![8; 12], ..fine.clone() }),
         Case::QuantizePixels(Quantize { palette: vec![], ..fine.clone() }),
         Case::QuantizePixels(fine),
         Case::DitherToMode(ToMode { height: 4097, ..mode.clone() }),
@@ -68,14 +68,14 @@ fn untouched(case: &Case) -> Vec<Value> {
     match case {
         Case::OrderedThreshold { .. } => vec![Value::Float(None)],
         Case::Pick(c) => vec![Value::bytes(&c.chosen)],
-        Case::QuantizePixels(c) => vec![Value::bytes(&c.indices), Value::bytes(&c.out), Value::floats(&c.cells)],
+        Case::QuantizePixels(c) => vec![Value::bytes(&c.indices), Value::bytes(&c.out), Value::cells(&c.cells)],
         Case::DitherToMode(c) => vec![
             Value::Word32(None),
             Value::Word32(None),
             Value::bytes(&c.places),
             Value::floats(&c.oklab),
             Value::bytes(&c.out),
-            Value::floats(&c.cells),
+            Value::cells(&c.cells),
         ],
         _ => unreachable!("no kind"),
     }

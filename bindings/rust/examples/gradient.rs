@@ -28,7 +28,7 @@ fn main() -> Result<(), Refusal> {
 
     for (name, kind) in [("off", kind::OFF), ("Bayer 4x4", kind::BAYER_4X4), ("Atkinson", kind::ATKINSON)] {
         let (mut indices, mut out) = ([0; PIXELS], [0; 4 * PIXELS]);
-        let mut cells = vec![0.0; if kind::is_diffusion(kind) { 3 * PIXELS } else { 0 }];
+        let mut cells = vec![0; if kind::is_diffusion(kind) { 3 * PIXELS } else { 0 }];
         let output = Output { out: &mut out, cells: &mut cells };
         quantize_pixels(3, kind, picture, tables, &palette, &mut indices, output)?;
         print(name, &indices);

@@ -50,7 +50,7 @@ extern "C" {
         shift: u32, kind: u32, width: u32, height: u32,
         reduction: Bytes, reduction_len: usize, scale: Bytes, scale_len: usize,
         palette: Bytes, palette_len: usize, pixels: Bytes, pixels_len: usize,
-        indices: *mut u8, indices_len: usize, out: *mut u8, out_len: usize, cells: *mut f32, cells_len: usize,
+        indices: *mut u8, indices_len: usize, out: *mut u8, out_len: usize, cells: *mut i16, cells_len: usize,
     ) -> u32;
 
     pub fn badge_dither_to_mode(
@@ -59,7 +59,7 @@ extern "C" {
         has_zero: u32, zero_r: u8, zero_g: u8, zero_b: u8, zero_a: u8,
         reduction: Bytes, reduction_len: usize, scale: Bytes, scale_len: usize, pixels: Bytes, pixels_len: usize,
         places: *mut u8, places_len: usize, oklab: *mut f32, oklab_len: usize,
-        out: *mut u8, out_len: usize, cells: *mut f32, cells_len: usize,
+        out: *mut u8, out_len: usize, cells: *mut i16, cells_len: usize,
         count: *mut u32, tile: *mut u32,
     ) -> u32;
 

@@ -21,7 +21,7 @@
 //! let pixels = [0, 64, 128, 192, 255].map(|v| [v, v, v, 255]).concat();
 //! let palette = [[0, 0, 0, 255], [31, 31, 31, 255]].concat();
 //!
-//! let (mut indices, mut out, mut cells) = ([0; 5], [0; 20], [0.0; 15]);
+//! let (mut indices, mut out, mut cells) = ([0; 5], [0; 20], [0; 15]);
 //! quantize_pixels(
 //!     3,
 //!     kind::FLOYD_STEINBERG,
@@ -33,6 +33,8 @@
 //! )?;
 //! assert_eq!(indices, [0, 0, 1, 1, 1]);
 //! assert_eq!(out[8..12], [255, 255, 255, 255]);
+//! // The second pixel is 64 too light for black. The third got 7/16 of that: 7 * 64 sixteenths.
+//! assert_eq!(cells[6..9], [448; 3]);
 //! # Ok::<(), badge_dither::Refusal>(())
 //! ```
 //!

@@ -43,9 +43,11 @@ pub struct Rooms<'a> {
 pub struct Output<'a> {
     /// Normalised pixels, four bytes each.
     pub out: &'a mut [u8],
-    /// The error that was passed on to each pixel: three floats a pixel for
-    /// Atkinson and Floyd-Steinberg, and none for the other kinds.
-    pub cells: &'a mut [f32],
+    /// The error that was passed on to each pixel, in sixteenths: three cells
+    /// a pixel (red, green, blue) for Atkinson and Floyd-Steinberg, and none
+    /// for the other kinds. They may hold anything before the call; where it
+    /// accepts, each holds -4,080 to 4,080, which is 255 either way.
+    pub cells: &'a mut [i16],
 }
 
 /// How a picture is dithered to a mode.

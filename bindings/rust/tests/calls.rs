@@ -171,7 +171,7 @@ fn colour_zero_is_kept() {
     let mut lent = Lent::new(2, settings.kind, 2);
     assert_eq!(lent.dither(settings, row(&pixels), t.tables()), Ok(2));
     assert_eq!(lent.out, [132, 132, 132, 255, 255, 255, 255, 255]);
-    assert_eq!(lent.cells, [0.0; 6], "no error is passed on from colour zero");
+    assert_eq!(lent.cells, [0; 6], "no error is passed on from colour zero");
 }
 
 #[test]

@@ -42,7 +42,7 @@ fn e5_black_and_white() {
 }
 
 /// The cells of two pixels, 80 and `second`, that are dithered to black.
-fn cells_of_two(kind: u32, second: [u8; 4]) -> Vec<f32> {
+fn cells_of_two(kind: u32, second: [u8; 4]) -> Vec<i16> {
     let (t, pixels) = (five_bits(), [grey(80), second].concat());
     let mut lent = Lent::new(2, kind, 0);
     assert_eq!(lent.quantize(3, kind, row(&pixels), t.tables(), &BLACK), Ok(()));
@@ -52,17 +52,19 @@ fn cells_of_two(kind: u32, second: [u8; 4]) -> Vec<f32> {
 #[test]
 fn e7_floyd_steinberg() {
     // 560 sixteenths arrive at the second pixel, and 720 are dropped.
-    assert_eq!(cells_of_two(kind::FLOYD_STEINBERG, grey(0)), [0.0, 0.0, 0.0, 35.0, 35.0, 35.0]);
+    assert_eq!(cells_of_two(kind::FLOYD_STEINBERG, grey(0)), [0, 0, 0, 560, 560, 560]);
 }
 
 #[test]
 fn e8_atkinson() {
-    assert_eq!(cells_of_two(kind::ATKINSON, grey(0)), [0.0, 0.0, 0.0, 10.0, 10.0, 10.0]);
+    // 160 sixteenths arrive at the second pixel, 800 are dropped and 320 held back.
+    assert_eq!(cells_of_two(kind::ATKINSON, grey(0)), [0, 0, 0, 160, 160, 160]);
 }
 
 #[test]
 fn e9_second_transparent() {
-    assert_eq!(cells_of_two(kind::FLOYD_STEINBERG, CLEAR), [0.0, 0.0, 0.0, 35.0, 35.0, 35.0]);
+    // What reaches a pixel that is not dithered stays in its cells.
+    assert_eq!(cells_of_two(kind::FLOYD_STEINBERG, CLEAR), [0, 0, 0, 560, 560, 560]);
 }
 
 /// The answer for a row in tiles of two pixels.

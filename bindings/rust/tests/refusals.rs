@@ -98,7 +98,7 @@ fn quantizing() {
     assert_eq!(quantized(3, 0, [1, 1], &[0; 5], |_| ()), Some(3));
     assert_eq!(quantized(3, 0, [1, 1], &[], |l| l.indices.clear()), Some(3));
     assert_eq!(quantized(3, 0, [1, 1], &BLACK, |l| l.out.push(0)), Some(3));
-    assert_eq!(quantized(3, 0, [1, 1], &BLACK, |l| l.cells.push(0.0)), Some(3));
+    assert_eq!(quantized(3, 0, [1, 1], &BLACK, |l| l.cells.push(0)), Some(3));
     assert_eq!(quantized(3, 9, [1, 1], &BLACK, |l| l.cells.clear()), Some(3));
     assert_eq!(quantized(3, 9, [1, 1], &[], |_| ()), Some(4));
     assert_eq!(quantized(3, 9, [1, 1], &BLACK.repeat(257), |_| ()), Some(4));
@@ -180,7 +180,7 @@ fn a_retired_kind_comes_directly_after_1() {
         let ok = settings(kind);
         let far = Settings { origin: [u32::MAX; 2], tile: [0, 0], limit: 257, ..ok };
         assert_eq!(dithered(far, |l| l.oklab.clear()), Some(15), "and 2, 3, 5");
-        assert_eq!(dithered(ok, |l| l.cells.push(0.0)), Some(15), "and 3");
+        assert_eq!(dithered(ok, |l| l.cells.push(0)), Some(15), "and 3");
         assert_eq!(dithered(Settings { tile: [0, 8], ..ok }, |_| ()), Some(15), "and 5");
         assert_eq!(dithered(ok, |l| (l.places, l.oklab) = Default::default()), Some(15), "and 7");
         assert_eq!(dithered(Settings { limit: 0, ..ok }, |_| ()), Some(15), "and 8");
@@ -230,7 +230,7 @@ fn a_tile_over_its_limit() {
     let refusal = lent.dither(settings, row(&pixels), t.tables()).unwrap_err();
     assert_eq!(refusal, Refusal::TileOver { tile: 1, count: 3 });
     assert_eq!((refusal.number(), refusal.to_string().as_str()), (8, "8: tile 1 is over its limit"));
-    assert_eq!((lent.out, lent.cells), (vec![0; 16], vec![0.0; 12]));
+    assert_eq!((lent.out, lent.cells), (vec![0; 16], vec![0; 12]));
 
     let mut listed = Lent::new(4, 0, 4);
     assert_eq!(candidate_colors_in(3, row(&pixels), t.tables(), listed.rooms()), Ok(3));

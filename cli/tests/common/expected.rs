@@ -64,6 +64,6 @@ impl Console {
     }
 }
 
-fn cells(kind: u32, image: &Image) -> Vec<f32> {
-    vec![0.0; if kind::is_diffusion(kind) { image.pixels.len() / 4 * 3 } else { 0 }]
+fn cells(kind: u32, image: &Image) -> Vec<i16> {
+    vec![0; if kind::is_diffusion(kind) { image.pixels.len() / 4 * 3 } else { 0 }]
 }

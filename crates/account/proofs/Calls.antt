@@ -3,7 +3,7 @@ use mathlib.Core.Path.{_≡_, refl, _∙_}
 use mathlib.Core.Bool.{true}
 use mathlib.Core.List.{List}
 use Prim.Native.Nat.{ℕ}
-use lib.Ieee.{Float}
+use lib.IntN.{ℤ}
 use Rattle.patterns.specs.Kinds.{isDiffusion}
 use Rattle.drawing.specs.declared.ColorZero.the-variants.{Absent}
 use Rattle.drawing.proofs.FinishedLaws.{pixel-seen, drawn-seen}
@@ -19,7 +19,7 @@ use Rattle.account.specs.Accounted.{Accounted}
 use Rattle.account.proofs.Shared.{accounted}
 
 -- ---- `quantize_pixels`
-module _ {q : quantize.Commission} {indices₀ out₀ : List ℕ} {cells₀ : List Float} {indices out : List ℕ} {cells : List Float} where
+module _ {q : quantize.Commission} {indices₀ out₀ : List ℕ} {cells₀ : List ℤ} {indices out : List ℕ} {cells : List ℤ} where
   pub quantize-accounted : Quantized q indices₀ out₀ cells₀ Accepted indices out cells → isDiffusion (q .kind) ≡ true
       → Accounted (quantizing q) (q .pixels) out cells
   quantize-accounted p k =

@@ -6,7 +6,7 @@ use mathlib.Core.Bool.{false, not}
 use mathlib.Core.List.{List}
 use Prim.Native.Nat.{ℕ, _*_, _<_}
 use borrow.Author.Tests.{not-true}
-use lib.Ieee.{Float}
+use lib.IntN.{ℤ}
 use Rattle.color.specs.declared.NormalizedColor.{NormalizedColor}
 use Rattle.color.specs.declared.ReducedColor.{ReducedColor}
 use Rattle.color.specs.Color.{normalizedAt}
@@ -20,7 +20,7 @@ use Rattle.account.specs.Accounted.{pictureIn, leftOf, Accounted}
 use Rattle.account.proofs.Bytes.{byte-in}
 use Rattle.account.proofs.Shared.{cells-same}
 
-module _ {d : Drawing} {pixels out out′ : List ℕ} {cells cells′ : List Float} (x : Accounted d pixels out cells) (y : Accounted d pixels out′ cells′) where
+module _ {d : Drawing} {pixels out out′ : List ℕ} {cells cells′ : List ℤ} (x : Accounted d pixels out cells) (y : Accounted d pixels out′ cells′) where
   pub accounted-only : (i : ℕ) → i < d .width * d .height → d .skipped i ≡ false → normalizedAt out i ≡ normalizedAt out′ i
   accounted-only i h s =
       unique (leftOf d pixels) (kernelOf (d .kind)) (λ a (c : NormalizedColor). byteIn a (c .0)) (pictureIn d pixels out) (pictureIn d pixels out′)
@@ -40,7 +40,7 @@ module _ {d : Drawing} {pixels out out′ : List ℕ} {cells cells′ : List Flo
   pub cells-only : cells ≡ cells′
   cells-only = x .cell-buffer ∙ cells-same (kernelOf (d .kind)) (pictureIn d pixels out) (pictureIn d pixels out′) alike ∙ sym (y .cell-buffer)
 
-module _ {d : Drawing} {pixels : List ℕ} {cells : List Float} (some : 0 < d .candidates .count) (i : ℕ) (h : i < d .width * d .height)
+module _ {d : Drawing} {pixels : List ℕ} {cells : List ℤ} (some : 0 < d .candidates .count) (i : ℕ) (h : i < d .width * d .height)
     (s : d .skipped i ≡ false) where
   pub left-among : {out : List ℕ} → Accounted d pixels out cells → (c : ReducedColor) × Among (d .candidates) c × (normalizedAt out i ≡ d .normalize c)
   left-among x = (_, nearest-among (d .candidates) some _, x .chosen i h (ap not s))

@@ -137,7 +137,7 @@ module _ (c : Channel) where
 
 -- ---- the dithered pixels' cells are what the dithered pixels sent to dithered pixels
 module _ (k : List Target) (c : Channel) (s : T (later k)) where
-  cells-are-sends : overDithered c (cell k c) ≡ sentTo (isDithered c) k c
+  cells-are-sends : overDithered c (cell k c) ≡ sentTo (isDithered c) k c (cell k c)
   unfolding overDithered sentTo residual residualOf
   cells-are-sends =
       sum-same (λ i. cond (c .dithered i) (cell k c i) (pos 0)) (λ i. sum (λ j. cond (c .dithered i) (send j i) (pos 0)) size) size
@@ -185,34 +185,55 @@ module _ (k : List Target) (h : ℕ) (c : Channel) (s : T (later k)) (t : total 
   pixels i d = rw d (one-pixel (c .source i) (cell k c i) (c .chosen i))
 
   -- sixteen residuals: what reached dithered pixels, skipped ones, no pixel, and what was held back
-  residuals : overDithered c (λ i. residual k c i *ℤ pos 16) ≡ overDithered c (cell k c) +ℤ (toSkipped k c +ℤ dropped k c) +ℤ held k h c
-  unfolding sentTo toSkipped dropped held
+  residuals : overDithered c (λ i. residual k c i *ℤ pos 16)
+      ≡ overDithered c (cell k c) +ℤ (toSkipped k c (cell k c) +ℤ dropped k c (cell k c)) +ℤ held h c (cell k c)
+  unfolding sentTo toSkipped dropped held residual
   residuals =
       over-same c (λ i. residual k c i *ℤ pos 16) (λ i. (to (isDithered c) i +ℤ (to (isSkipped c) i +ℤ to isOutside i)) +ℤ residual k c i *ℤ pos h)
       (λ i l d. sym (shared (residual k c i)) ∙ ap (λ (x : ℤ). x +ℤ residual k c i *ℤ pos h) (sym (all-sent c k (c .width) (c .height) i (residual k c i))))
       ∙ over-add c (λ i. to (isDithered c) i +ℤ (to (isSkipped c) i +ℤ to isOutside i)) (λ i. residual k c i *ℤ pos h)
-      ∙ ap (λ (x : ℤ). x +ℤ held k h c)
+      ∙ ap (λ (x : ℤ). x +ℤ held h c (cell k c))
       (over-add c (to (isDithered c)) (λ i. to (isSkipped c) i +ℤ to isOutside i)
       ∙ (λ q. sym (cells-are-sends k c s) q +ℤ over-add c (to (isSkipped c)) (to isOutside) q))
     where
       to : (Place → Bool) → ℕ → ℤ
       to test i = sent test k (c .width) (c .height) i (residual k c i)
 
-  pub account : excess c ≡ lost k c +ℤ toSkipped k c +ℤ dropped k c +ℤ held k h c
-  unfolding excess sources choices lost
-  account =
+  of-cells : excess c ≡ lost c (cell k c) +ℤ toSkipped k c (cell k c) +ℤ dropped k c (cell k c) +ℤ held h c (cell k c)
+  unfolding excess sources choices lost loss
+  of-cells =
       *ℤ-comm (pos 16) (sources c -ℤ choices c)
       ∙ sub-times (sources c) (choices c) 16
-      ∙ balance (sources c *ℤ pos 16) (choices c *ℤ pos 16) (overDithered c (cell k c)) (lost k c) (toSkipped k c) (dropped k c) (held k h c) both-sides
+      ∙ balance (sources c *ℤ pos 16) (choices c *ℤ pos 16) (overDithered c (cell k c)) (lost c (cell k c)) (toSkipped k c (cell k c))
+      (dropped k c (cell k c)) (held h c (cell k c)) both-sides
     where
       both-sides : sources c *ℤ pos 16 +ℤ overDithered c (cell k c)
-          ≡ lost k c +ℤ (overDithered c (cell k c) +ℤ (toSkipped k c +ℤ dropped k c) +ℤ held k h c +ℤ choices c *ℤ pos 16)
+          ≡ lost c (cell k c)
+          +ℤ (overDithered c (cell k c) +ℤ (toSkipped k c (cell k c) +ℤ dropped k c (cell k c)) +ℤ held h c (cell k c) +ℤ choices c *ℤ pos 16)
       both-sides =
           ap (λ (x : ℤ). x +ℤ overDithered c (cell k c)) (sym (over-times c (λ i. pos (c .source i)) 16))
           ∙ sym (over-add c (λ i. pos (c .source i) *ℤ pos 16) (cell k c))
           ∙ over-same c (λ i. pos (c .source i) *ℤ pos 16 +ℤ cell k c i) (λ i. loss k c i +ℤ (residual k c i *ℤ pos 16 +ℤ pos (c .chosen i) *ℤ pos 16))
           (λ i l d. pixels i d)
           ∙ over-add c (loss k c) (λ i. residual k c i *ℤ pos 16 +ℤ pos (c .chosen i) *ℤ pos 16)
-          ∙ ap (λ (x : ℤ). lost k c +ℤ x)
+          ∙ ap (λ (x : ℤ). lost c (cell k c) +ℤ x)
           (over-add c (λ i. residual k c i *ℤ pos 16) (λ i. pos (c .chosen i) *ℤ pos 16)
           ∙ (λ q. residuals q +ℤ over-times c (λ i. pos (c .chosen i)) 16 q))
+
+  -- so it does with the cells as they are read, where these are the picture's
+  module _ (cells : ℕ → ℤ) (read : (i : ℕ) → i < c .width * c .height → cells i ≡ cell k c i) where
+    term : (f : ℕ → ℤ → ℤ) → overDithered c (λ i. f i (cell k c i)) ≡ overDithered c (λ i. f i (cells i))
+    term f = over-same c (λ i. f i (cell k c i)) (λ i. f i (cells i)) (λ i l d. ap (f i) (sym (read i l)))
+
+    sent-same : (test : Place → Bool) → sentTo test k c (cell k c) ≡ sentTo test k c cells
+    unfolding sentTo
+    sent-same test = term (λ i z. sent test k (c .width) (c .height) i (residualOf c i z))
+
+    pub account : excess c ≡ lost c cells +ℤ toSkipped k c cells +ℤ dropped k c cells +ℤ held h c cells
+    unfolding lost toSkipped dropped held
+    account =
+        of-cells
+        ∙ (λ q. term (λ i z. lossOf (c .source i) z) q
+        +ℤ sent-same (isSkipped c) q
+        +ℤ sent-same isOutside q
+        +ℤ term (λ i z. residualOf c i z *ℤ pos h) q)

@@ -11,5 +11,5 @@ pub mod Loss
 pub mod Account
 pub mod Rounding
 pub mod Spots
-pub mod Cells
+pub mod Machine
 pub mod Targets

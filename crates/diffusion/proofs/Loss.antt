@@ -1,14 +1,12 @@
 -- The loss where nothing is clipped lies from -8 to 7. Assumes nothing.
 use mathlib.Core.Bool.{Bool, true, false, cond}
-use mathlib.Core.List.{List}
 use Prim.Native.Nat.{ℕ, zero, suc, _+_, _-_, _*_, _/_, _≤_, min}
 use native.Mathlib.Omega.{arith}
 use lib.Dec.{ltb, leb→le, le→leb}
 use lib.IntN.{ℤ, pos, negsuc, _+ℤ_, _-ℤ_}
 use lib.Signed.{_≤ℤ_}
-use Rattle.patterns.specs.Kernel.{Target}
 use Rattle.diffusion.specs.Biased.{halves, clip, biasedOf}
-use Rattle.diffusion.specs.Diffusion.{Channel, cell, lossOf, loss}
+use Rattle.diffusion.specs.Diffusion.{lossOf}
 
 near : (v b : ℕ) → b ≤ v + 8 → v ≤ b + 7 → (negsuc 7 ≤ℤ (pos v -ℤ pos b)) × ((pos v -ℤ pos b) ≤ℤ pos 7)
 near v zero p q = (record { le = tt }, record { le = le→leb (v + 0) 7 (omega arith) })
@@ -29,10 +27,3 @@ rounded (negsuc v) low high = absurd (low .le)
 pub loss-range : (s : ℕ) (z : ℤ) → pos 0 ≤ℤ (pos (s * 16) +ℤ z) → (pos (s * 16) +ℤ z) ≤ℤ pos 4080 → (negsuc 7 ≤ℤ lossOf s z) × (lossOf s z ≤ℤ pos 7)
 unfolding lossOf biasedOf
 loss-range s z low high = rounded (pos (s * 16) +ℤ z) low high
-
--- of a pixel
-pub pixel-loss-range : (k : List Target) (c : Channel) (i : ℕ) → pos 0 ≤ℤ (pos (c .source i * 16) +ℤ cell k c i)
-    → (pos (c .source i * 16) +ℤ cell k c i) ≤ℤ pos 4080
-    → (negsuc 7 ≤ℤ loss k c i) × (loss k c i ≤ℤ pos 7)
-unfolding loss
-pixel-loss-range k c i low high = loss-range (c .source i) (cell k c i) low high

@@ -1,5 +1,5 @@
 -- What a pixel receives, for any kernel: it is the gathered sum over its senders, and its cell is the only function that is; it is settled once
--- the pixel's turn comes; it lies within 4080 sixteenths; later choices do not count. Assumes nothing.
+-- the pixel's turn comes; it lies within 4080 sixteenths, with all that the next pixel sends; later choices do not count. Assumes nothing.
 use mathlib.Core.Path.{_≡_, refl, sym, ap, _∙_, subst}
 use mathlib.Core.Bool.{Bool, true, false, cond}
 use mathlib.Core.List.{List}
@@ -85,6 +85,11 @@ module _ (k : List Target) (c : Channel) where
 
     pub bound : (n i : ℕ) → natAbs (received k c n i) ≤ 4080
     bound n i = omega (arith, by-weights n i, weights-arrive (c .width) (c .height) i k n)
+
+    -- what the pixel n sends has room beside it
+    pub room : (n i : ℕ) → natAbs (received k c n i) + 255 * weightTo k (c .width) (c .height) n i ≤ 4080
+    unfolding sumℕ
+    room n i = omega (arith, by-weights n i, weights-arrive (c .width) (c .height) i k (suc n))
 
 -- ---- only what stands before a pixel counts, and of skipped pixels not the choice
 module _ (c c′ : Channel) where

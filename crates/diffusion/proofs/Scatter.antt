@@ -1,24 +1,24 @@
 -- Scattering pixel by pixel from zeros gives the gathered sums, for any kernel: after n pixels the buffer holds what each pixel received from
--- them; every cell of it is small; at the end it holds the cells of the picture. Assumes nothing.
+-- them; every cell of it is small, and has room for what comes next; at the end it holds the cells of the picture. Assumes nothing.
 use mathlib.Core.Path.{_≡_, refl, sym, ap, _∙_, subst}
 use mathlib.Core.Bool.{Bool, true, false, cond, _&&_}
-use mathlib.Core.List.{List, [], _∷_, map}
+use mathlib.Core.List.{List, [], _∷_}
 use Prim.Native.Nat.{ℕ, zero, suc, _+_, _*_, _≤_, _<_}
 use native.Mathlib.Nat.{add-zero, le-refl, le-of-lt}
 use native.Mathlib.Omega.{arith}
 use borrow.Author.Tests.{eq-eqb, ne-eqb, eqb-true, eqb-false}
 use lib.Dec.{T, eqb, lit<}
 use lib.IntN.{ℤ, pos, natAbs, _+ℤ_, _*ℤ_, +ℤ-idr, +ℤ-assoc, *ℤ-zero, zero-*ℤ}
-use lib.ListN.{length, getD, set, replicate, length-set, length-replicate, getD-replicate, length-map, List·getD-map}
+use lib.ListN.{length, getD, set, replicate, length-set, length-replicate, getD-replicate}
 use lib.Seq.{getD-set-same, getD-set-other, set-getD}
 use Rattle.lists.proofs.GatherLaws.{gather-only}
-use Rattle.floats.specs.Over.{sixteenths}
 use Rattle.floats.proofs.Int.{times-add}
 use Rattle.patterns.specs.Kernel.{Target, Place, pixel, outside, landing, total, later}
 use Rattle.diffusion.specs.Diffusion.{Picture, channel, isAt, weightTo, residualOf, received, cell}
 use Rattle.diffusion.specs.Scatter.{more, send, sends, leftOver, scatter, Holds, cellsAt, cellBuffer}
 use Rattle.diffusion.proofs.Channels.{by-channel, by-pixel}
-use Rattle.diffusion.proofs.Received.{settled, bound}
+use Rattle.diffusion.specs.Sends.{Room}
+use Rattle.diffusion.proofs.Received.{settled, bound, room}
 
 -- ---- one cell
 pub more-length : (cells : List ℤ) (at : ℕ) (z : ℤ) → length (more cells at z) ≡ length cells
@@ -56,7 +56,7 @@ spot m b i a B A = go (eqb m i) (eqb b a) refl refl
         let P = eqb-false m i p in
         ne-eqb (3 * m + b) (3 * i + a) (omega arith)
 
-send-length : (cells : List ℤ) (r : ℕ → ℤ) (p : Place) (w : ℕ) → length (send cells r p w) ≡ length cells
+pub send-length : (cells : List ℤ) (r : ℕ → ℤ) (p : Place) (w : ℕ) → length (send cells r p w) ≡ length cells
 unfolding send
 send-length cells r (pixel m) w = simp more-length
 send-length cells r outside w = refl
@@ -83,7 +83,7 @@ one-channel r w true a A v =
     A
 one-channel r w false a A v = simp (+ℤ-idr, *ℤ-zero)
 
-send-at : (cells : List ℤ) (r : ℕ → ℤ) (p : Place) (w a i : ℕ) → a < 3 → 3 * i + a < length cells
+pub send-at : (cells : List ℤ) (r : ℕ → ℤ) (p : Place) (w a i : ℕ) → a < 3 → 3 * i + a < length cells
     → getD (send cells r p w) (3 * i + a) (pos 0) ≡ getD cells (3 * i + a) (pos 0) +ℤ r a *ℤ pos (cond (isAt i p) w 0)
 unfolding send isAt
 send-at cells r (pixel m) w a i A h =
@@ -182,18 +182,19 @@ module _ (k : List Target) (p : Picture) where
       q
       (subst (λ (m : ℕ). q < m) (h .size) l)
 
-  -- ---- at the end: pixel by pixel, the cells of the picture
-  three : (f : ℕ → ℤ) (a : ℕ) → a < 3 → getD (sixteenths (f 0) ∷ sixteenths (f 1) ∷ sixteenths (f 2) ∷ []) a (sixteenths (pos 0)) ≡ sixteenths (f a)
-  three f = by-channel (λ a. getD (sixteenths (f 0) ∷ sixteenths (f 1) ∷ sixteenths (f 2) ∷ []) a (sixteenths (pos 0)) ≡ sixteenths (f a)) refl refl refl
+  -- and has room for all that the next pixel sends to it
+  pub holds-room : total k ≤ 16 → ((a j : ℕ) → a < 3 → p .chosen a j ≤ 255) → (n : ℕ) (cells : List ℤ) → Holds k p n cells → Room k (p .width) (p .height) n cells
+  holds-room t bytes n cells h a i A l =
+      subst (λ (z : ℤ). natAbs z + 255 * weightTo k (p .width) (p .height) n i ≤ 4080) (sym (h .each a i A l)) (room k (channel p a) (λ j. bytes a j A) t n i)
 
-  pub drawn : T (later k) → map sixteenths (scatter k p (p .width * p .height)) ≡ cellBuffer k p
+  -- ---- at the end: pixel by pixel, the cells of the picture
+  three : (f : ℕ → ℤ) (a : ℕ) → a < 3 → getD (f 0 ∷ f 1 ∷ f 2 ∷ []) a (pos 0) ≡ f a
+  three f = by-channel (λ a. getD (f 0 ∷ f 1 ∷ f 2 ∷ []) a (pos 0) ≡ f a) refl refl refl
+
+  pub drawn : T (later k) → scatter k p (p .width * p .height) ≡ cellBuffer k p
   unfolding cellBuffer
   drawn s =
       let all : ℕ = p .width * p .height in
-      let cells : List ℤ = scatter k p all in
-      let h : Holds k p all cells = scattered all (le-refl all) in
-      gather-only 3 (cellsAt k p) (λ j. refl) (sixteenths (pos 0)) all (map sixteenths cells) (length-map cells sixteenths ∙ h .size)
-      (λ i a l A.
-      List·getD-map sixteenths cells (3 * i + a) (pos 0)
-      ∙ ap sixteenths (h .each a i A l ∙ settled k (channel p a) s all i (le-of-lt l))
-      ∙ sym (three (λ a. cell k (channel p a) i) a A))
+      let h : Holds k p all (scatter k p all) = scattered all (le-refl all) in
+      gather-only 3 (cellsAt k p) (λ j. refl) (pos 0) all (scatter k p all) (h .size)
+      (λ i a l A. h .each a i A l ∙ settled k (channel p a) s all i (le-of-lt l) ∙ sym (three (λ a. cell k (channel p a) i) a A))

@@ -1,27 +1,23 @@
--- The steps of a scan over the pixels, whose lent buffer holds, before the pixel n, the sixteenths of `scatter k p n`: how it begins, what holds of
--- its cells, what the pixel reads, what a skipped and a dithered pixel leave behind, and how it ends. Stated over plain parameters, for a loop's
--- invariant. Assumes nothing.
-use mathlib.Core.Path.{_≡_, refl, sym, ap, _∙_}
+-- The steps of a scan over the pixels, whose lent buffer is, before the pixel n, `scatter k p n`: how it begins, what holds of its cells, what the
+-- pixel reads, what a skipped and a dithered pixel leave behind, and how it ends. Stated over plain parameters, for a loop's invariant. Assumes
+-- nothing.
+use mathlib.Core.Path.{_≡_, refl, sym, ap, _∙_, subst}
 use mathlib.Core.Bool.{true, false, cond}
-use mathlib.Core.List.{List, map}
+use mathlib.Core.List.{List}
 use Prim.Native.Nat.{ℕ, _+_, _*_, _≤_, _<_}
 use native.Mathlib.Nat.{add-zero, le-refl, le-of-lt}
 use native.Mathlib.Numerals.{add-one}
 use lib.Dec.{T}
-use lib.IntN.{ℤ, pos, _-ℤ_}
-use lib.ListN.{length, getD, replicate, length-map}
-use lib.Ieee.{Float, binary32, ofBits}
+use lib.IntN.{ℤ, pos, natAbs, _-ℤ_}
+use lib.ListN.{length, getD, replicate}
 use Rattle.color.specs.declared.NormalizedColor.{NormalizedColor}
-use Rattle.floats.specs.Over.{sixteenths}
-use Rattle.floats.specs.Cells.{Cells}
-use Rattle.floats.proofs.Cells.{cells-zero}
 use Rattle.patterns.specs.Kernel.{Target, total, later}
 use Rattle.diffusion.specs.Biased.{biasedOf, biasedColor}
 use Rattle.diffusion.specs.Diffusion.{Picture, channel, residualOf, cell, biased}
 use Rattle.diffusion.specs.Scatter.{sends, leftOver, scatter, cellBuffer}
-use Rattle.diffusion.specs.Sends.{byteIn, residualsOf}
+use Rattle.diffusion.specs.Sends.{byteIn, residualsOf, Room}
 use Rattle.diffusion.proofs.Channels.{by-channel}
-use Rattle.diffusion.proofs.Scatter.{sends-same, sends-none, scattered, holds-small, drawn}
+use Rattle.diffusion.proofs.Scatter.{sends-same, sends-none, scattered, holds-small, holds-room, drawn}
 
 -- the byte of a biased colour
 pub biased-in : (color : NormalizedColor) (cells : List ℤ) (i a : ℕ) → a < 3
@@ -34,17 +30,16 @@ biased-in color cells i =
 
 module _ (k : List Target) (p : Picture) where
   -- zeroed cells are the buffer before the first pixel
-  pub step-begin : (m : ℕ) (cells : List Float) → m ≡ 3 * (p .width * p .height) → cells ≡ replicate m (ofBits binary32 0)
-      → cells ≡ map sixteenths (scatter k p 0)
+  pub step-begin : (m : ℕ) (cells : List ℤ) → m ≡ 3 * (p .width * p .height) → cells ≡ replicate m (pos 0) → cells ≡ scatter k p 0
   unfolding scatter
-  step-begin m cells e z = z ∙ ap (λ (m : ℕ). replicate m (ofBits binary32 0)) e ∙ cells-zero (3 * (p .width * p .height))
+  step-begin m cells e z = z ∙ ap (λ (m : ℕ). replicate m (pos 0)) e
 
-  module _ (n : ℕ) (l : n ≤ p .width * p .height) (cells : List Float) (is : cells ≡ map sixteenths (scatter k p n)) where
+  module _ (n : ℕ) (l : n ≤ p .width * p .height) (cells : List ℤ) (is : cells ≡ scatter k p n) where
     pub step-length : length cells ≡ 3 * (p .width * p .height)
-    step-length = ap length is ∙ length-map (scatter k p n) sixteenths ∙ scattered k p n l .size
+    step-length = ap length is ∙ scattered k p n l .size
 
-    pub step-cells : total k ≤ 16 → ((a j : ℕ) → a < 3 → p .chosen a j ≤ 255) → Cells 4080 cells (scatter k p n)
-    step-cells t bytes = record { is = is; small = holds-small k p t bytes n (scatter k p n) (scattered k p n l) }
+    pub step-room : total k ≤ 16 → ((a j : ℕ) → a < 3 → p .chosen a j ≤ 255) → Room k (p .width) (p .height) n cells
+    step-room t bytes = subst (Room k (p .width) (p .height) n) (sym is) (holds-room k p t bytes n (scatter k p n) (scattered k p n l))
 
   -- what the pixel n reads is its cell, and its biased byte is what the definition says
   pub step-read : (a n : ℕ) → a < 3 → n < p .width * p .height → getD (scatter k p n) (3 * n + a) (pos 0) ≡ cell k (channel p a) n
@@ -71,16 +66,13 @@ module _ (k : List Target) (p : Picture) where
   step-sent n rs R = sends-same rs (leftOver p n (scatter k p n)) (p .width) (p .height) n R k (scatter k p n) ∙ ap (scatter k p) (sym (add-one n))
 
   -- a dithered pixel, by its colours: what `diffuse_residual` leaves, with the biased colour that the buffer gave and the chosen one
-  pub step-dithered : (n x y : ℕ) (color chosen : NormalizedColor) (cells : List Float) → y * p .width + x ≡ n → p .dithered n ≡ true
+  pub step-dithered : (n x y : ℕ) (color chosen : NormalizedColor) (cells : List ℤ) → y * p .width + x ≡ n → p .dithered n ≡ true
       → ((a : ℕ) → a < 3 → p .source a n ≡ byteIn a (color .0)) → ((a : ℕ) → a < 3 → p .chosen a n ≡ byteIn a (chosen .0))
-      → cells ≡ map sixteenths (sends (scatter k p n) (residualsOf (biasedColor color (scatter k p n) n .0) (chosen .0)) k (p .width) (p .height)
-      (y * p .width + x))
-      → cells ≡ map sixteenths (scatter k p (n + 1))
+      → cells ≡ sends (scatter k p n) (residualsOf (biasedColor color (scatter k p n) n .0) (chosen .0)) k (p .width) (p .height) (y * p .width + x)
+      → cells ≡ scatter k p (n + 1)
   unfolding residualOf
   step-dithered n x y color chosen cells at d S C is =
-      is
-      ∙ ap (λ (j : ℕ). map sixteenths (sends (scatter k p n) rs k (p .width) (p .height) j)) at
-      ∙ ap (map sixteenths) (step-sent n rs left)
+      is ∙ ap (λ (j : ℕ). sends (scatter k p n) rs k (p .width) (p .height) j) at ∙ step-sent n rs left
     where
       rs : ℕ → ℤ
       rs = residualsOf (biasedColor color (scatter k p n) n .0) (chosen .0)
@@ -91,10 +83,13 @@ module _ (k : List Target) (p : Picture) where
           ∙ (λ q. cond (sym d q) (pos (biasedOf (sym (S a A) q) (getD (scatter k p n) (3 * n + a) (pos 0))) -ℤ pos (p .chosen a n)) (pos 0))
 
   -- after the last pixel the buffer holds the picture's cells
-  pub step-end : T (later k) → (cells : List Float) → cells ≡ map sixteenths (scatter k p (p .width * p .height)) → cells ≡ cellBuffer k p
+  pub step-end : T (later k) → (cells : List ℤ) → cells ≡ scatter k p (p .width * p .height) → cells ≡ cellBuffer k p
   step-end s cells is = is ∙ drawn k p s
 
-  -- and so the picture's cells are sixteenths within 255 either way
-  pub buffer-cells : T (later k) → total k ≤ 16 → ((a j : ℕ) → a < 3 → p .chosen a j ≤ 255) → (cells : List Float) → cells ≡ cellBuffer k p
-      → Cells 4080 cells (scatter k p (p .width * p .height))
-  buffer-cells s t bytes cells is = step-cells (p .width * p .height) (le-refl (p .width * p .height)) cells (is ∙ sym (drawn k p s)) t bytes
+  -- and so the picture's cells are within 255 either way
+  pub buffer-small : T (later k) → total k ≤ 16 → ((a j : ℕ) → a < 3 → p .chosen a j ≤ 255) → (cells : List ℤ) → cells ≡ cellBuffer k p
+      → (q : ℕ) → q < length cells → natAbs (getD cells q (pos 0)) ≤ 4080
+  buffer-small s t bytes cells is =
+      let all : ℕ = p .width * p .height in
+      subst (λ (v : List ℤ). (q : ℕ) → q < length v → natAbs (getD v q (pos 0)) ≤ 4080) (drawn k p s ∙ sym is)
+      (holds-small k p t bytes all (scatter k p all) (scattered k p all (le-refl all)))

@@ -1,13 +1,14 @@
 -- The weights that arrive at a pixel, for any kernel: none from the pixel itself or a later one where the targets come later, and no more in all
 -- than the kernel's total. Assumes nothing.
-use mathlib.Core.Path.{_≡_, refl, sym, ap, subst}
+use mathlib.Core.Path.{_≡_, refl, sym, ap, _∙_, subst}
 use mathlib.Core.Bool.{Bool, true, false, cond}
 use mathlib.Core.List.{List, [], _∷_}
 use Prim.Native.Nat.{ℕ, zero, suc, _+_, _≤_, _<_, zero-le}
-use native.Mathlib.Nat.{le-refl, lt-irrefl}
+use native.Mathlib.Nat.{le-refl, lt-irrefl, le-of-suc-le-suc, not-suc-le-zero}
 use native.Mathlib.Omega.{arith}
+use borrow.Author.Tests.{eq-eqb}
 use lib.Dec.{T, eqb→eq}
-use lib.ListN.{take}
+use lib.ListN.{length, getD, take}
 use lib.Ieee.Fits.{and-l, and-r}
 use Rattle.patterns.specs.Kernel.{Target, Place, pixel, outside, landing, total, comesLater, later}
 use Rattle.diffusion.specs.Diffusion.{isAt, weightTo}
@@ -71,6 +72,14 @@ module _ (w h i : ℕ) where
   weights-part [] (suc m) j = le-refl 0
   weights-part (t ∷ k) zero j = zero-le
   weights-part (t ∷ k) (suc m) j = omega (arith, weights-part k m j)
+
+  -- one of the targets, beside those before it
+  pub weight-next : (j : ℕ) (d : Target) (k : List Target) (m : ℕ) → m < length k → landing w h j (getD k m d) ≡ pixel i
+      → weightTo (take m k) w h j i + getD k m d .weight ≤ weightTo k w h j i
+  unfolding weightTo
+  weight-next j d [] m l e = absurd (not-suc-le-zero l)
+  weight-next j d (t ∷ k) zero l e = omega (arith, part-there t j (ap (isAt i) e ∙ unfold isAt in eq-eqb i i refl))
+  weight-next j d (t ∷ k) (suc m) l e = omega (arith, weight-next j d k m (le-of-suc-le-suc l) e)
 
   pub weight-total : (k : List Target) (j : ℕ) → weightTo k w h j i ≤ total k
   unfolding sumℕ

@@ -1,15 +1,14 @@
 -- Diffusion as a scan does it, scattered: one buffer with the cells of three channels, where those of the pixel i stand at 3 * i, 3 * i + 1
 -- and 3 * i + 2; and that buffer at the end, pixel by pixel. Definitions only.
 -- Written from document 01, "Diffusion runs row by row, left to right": "Targets outside the picture are dropped. A skipped pixel .. passes
--- nothing on. Cells start at 0 whatever was lent .. and are exact sixteenths".
+-- nothing on. Cells start at 0 whatever was lent .. and are exact sixteenths"; and from document 02, Ask 11: "signed 16-bit counts of sixteenths,
+-- three a pixel".
 use mathlib.Core.Path.{_≡_}
 use Prim.Native.Nat.{ℕ, zero, suc, _+_, _*_, _<_}
 use mathlib.Core.List.{List, [], _∷_}
 use lib.IntN.{ℤ, pos, _+ℤ_, _*ℤ_}
 use lib.ListN.{length, getD, set, replicate}
-use lib.Ieee.{Float}
 use Rattle.lists.specs.Gather.{gather}
-use Rattle.floats.specs.Over.{sixteenths}
 use Rattle.patterns.specs.Kernel.{Target, Place, pixel, outside, landing}
 use Rattle.diffusion.specs.Diffusion.{Picture, channel, residualOf, received, cell}
 
@@ -41,10 +40,10 @@ pub record Holds (k : List Target) (p : Picture) (n : ℕ) (cells : List ℤ) : 
   pub size : length cells ≡ 3 * (p .width * p .height)
   pub each : (a i : ℕ) → a < 3 → i < p .width * p .height → getD cells (3 * i + a) (pos 0) ≡ received k (channel p a) n i
 
--- the pixel i's three cells, as floats
-abbrev pub cellsAt : List Target → Picture → ℕ → List Float
-cellsAt k p i = sixteenths (cell k (channel p 0) i) ∷ sixteenths (cell k (channel p 1) i) ∷ sixteenths (cell k (channel p 2) i) ∷ []
+-- the pixel i's three cells
+abbrev pub cellsAt : List Target → Picture → ℕ → List ℤ
+cellsAt k p i = cell k (channel p 0) i ∷ cell k (channel p 1) i ∷ cell k (channel p 2) i ∷ []
 
 -- what a lent buffer of cells holds once the picture is drawn
-unfoldable pub cellBuffer : List Target → Picture → List Float
+unfoldable pub cellBuffer : List Target → Picture → List ℤ
 cellBuffer k p = gather (p .width * p .height) (cellsAt k p)

@@ -1,70 +1,77 @@
-// Error diffusion for one pixel: the biased colour, the residual, and the sends into a lent buffer of cells, three f32 a
-// pixel. `clamp_u8` and `diffuse` are named as in src/dither.rs, where the rest is the body of `Ditherer`'s
-// `diffusion_color_at`. There `clamp_u8` takes a float and `diffuse` has the cells and the size in the `Ditherer`; here
-// `clamp_u8` takes whole sixteenths, and cells and size are lent.
+// Error diffusion for one pixel: the biased colour, the residual, and the sends into a lent buffer of cells, three a pixel,
+// each a whole number of sixteenths. `clamp_u8` and `diffuse` are named as in src/dither.rs, where the rest is the body of
+// `Ditherer`'s `diffusion_color_at`. There a cell is an f32, `clamp_u8` takes a float, and `diffuse` has the cells and the
+// size in the `Ditherer`; here all are whole numbers, and cells and size are lent.
 ghost use mathlib.Core.Path.{_≡_};
-ghost use mathlib.Core.List.{List, map};
+ghost use mathlib.Core.List.{List};
 ghost use Prim.Native.Nat.{ℕ, _+_, _*_, _<_, _≤_};
 ghost use lib.IntN.{ℤ, pos, natAbs, _+ℤ_, _-ℤ_, _*ℤ_};
 ghost use lib.ListN.{length, getD};
-ghost use Rattle.floats.specs.Over.{sixteenths};
-ghost use Rattle.floats.specs.Cells.{Cell, Cells};
 ghost use Rattle.patterns.specs.Kernel.{Target, Arrays, atkinson, floydSteinberg, place, pixel};
 ghost use Rattle.patterns.specs.Kinds.{kernelOf};
 ghost use Rattle.diffusion.specs.Biased.{halves, clip, biasedOf, biasedColor};
 ghost use Rattle.diffusion.specs.Scatter.{more, send, sends};
-ghost use Rattle.diffusion.specs.Sends.{placeOf, Spot, residualsOf, Residual, Residuals, PassedOn};
+ghost use Rattle.diffusion.specs.Sends.{placeOf, Spot, residualsOf, inOrder, Residuals, RoomIn, RoomAt, Room};
 use color::NormalizedColor;
 use patterns::Dither;
 use patterns::Kind;
 
 // ---- the biased colour
 
-// n sixteenths, rounded to the nearest whole number with halves away from zero, and clipped to 0..255.
-// No public call: the caller sees to the size.
-fn clamp_u8(n: i32) -> u8
-    requires { ⌜ natAbs n < 1000000 ⌝ }
-    ensures { λ r. ⌜ r ≡ clip (halves n) ⌝ }
+// n sixteenths to the nearest whole number, halves away from zero. No public call: the caller sees to the size.
+fn round(n: i32) -> i32
+    requires { ⌜ natAbs n ≤ 65536 ⌝ }
+    ensures { λ r. ⌜ r ≡ halves n ⌝ }
 {
     if n < 0 {
+        let size = (0 - n) as u32;
+        return 0 - ((size + 8) / 16) as i32;
+    }
+    ((n as u32 + 8) / 16) as i32
+}
+
+// n sixteenths, rounded and then clipped to 0..255. No public call: the caller sees to the size.
+fn clamp_u8(n: i32) -> u8
+    requires { ⌜ natAbs n ≤ 65536 ⌝ }
+    ensures { λ r. ⌜ r ≡ clip (halves n) ⌝ }
+{
+    let r = round(n);
+    if r < 0 {
         return 0;
     }
-    let r = (n as u32 + 8) / 16;
     if r > 255 {
         return 255;
     }
     r as u8
 }
 
-// Sixteen times source plus cell, which is whole. No public call: the caller sees to the cell.
-fn in_sixteenths(source: u8, cell: f32) -> i32
-    requires { ⌜ ((n : ℤ) × Cell 4080 cell n) ⌝ }
-    ensures { λ r. ⌜ ((n : ℤ) → Cell 4080 cell n → r ≡ pos (source * 16) +ℤ n) ⌝ }
+// Sixteen times source, plus cell.
+fn in_sixteenths(source: u8, cell: i16) -> i32
+    ensures { λ r. ⌜ r ≡ pos (source * 16) +ℤ cell ⌝ }
 {
-    ((source as f32 + cell) * 16.0) as i32
+    source as i32 * 16 + cell as i32
 }
 
-// Source plus cell, rounded with halves away from zero and clipped to 0..255. No public call: the caller sees to the cell.
-pub fn biased(source: u8, cell: f32) -> u8
-    requires { ⌜ ((n : ℤ) × Cell 4080 cell n) ⌝ }
-    ensures { λ r. ⌜ ((n : ℤ) → Cell 4080 cell n → r ≡ biasedOf source n) ⌝ }
+// Source plus cell, rounded with halves away from zero and clipped to 0..255.
+pub fn biased(source: u8, cell: i16) -> u8
+    ensures { λ r. ⌜ r ≡ biasedOf source cell ⌝ }
 {
     clamp_u8(in_sixteenths(source, cell))
 }
 
-// The biased byte of a source and the cell at a place. No public call: the caller sees to the cells.
-fn biased_at(cells: &[f32], at: usize, source: u8) -> u8
-    requires { ⌜ (at < length (now cells)) × ((zs : List ℤ) × Cells 4080 (now cells) zs) ⌝ }
-    ensures { λ r. ⌜ ((zs : List ℤ) → Cells 4080 (now (cells .entry)) zs → r ≡ biasedOf source (getD zs at (pos 0))) ⌝ }
+// The biased byte of a source and the cell at a place. No public call: the caller sees to the place.
+fn biased_at(cells: &[i16], at: usize, source: u8) -> u8
+    requires { ⌜ at < length (now cells) ⌝ }
+    ensures { λ r. ⌜ r ≡ biasedOf source (getD (now (cells .entry)) at (pos 0)) ⌝ }
 {
     biased(source, cells[at])
 }
 
 // The biased colour of the pixel i: red, green and blue by its three cells, alpha kept. No public call: the caller sees to
-// the cells.
-pub fn biased_color(cells: &[f32], i: usize, color: NormalizedColor) -> NormalizedColor
-    requires { ⌜ (3 * i + 2 < length (now cells)) × ((zs : List ℤ) × Cells 4080 (now cells) zs) ⌝ }
-    ensures { λ r. ⌜ ((zs : List ℤ) → Cells 4080 (now (cells .entry)) zs → r ≡ biasedColor color zs i) ⌝ }
+// the cells' length.
+pub fn biased_color(cells: &[i16], i: usize, color: NormalizedColor) -> NormalizedColor
+    requires { ⌜ 3 * i + 2 < length (now cells) ⌝ }
+    ensures { λ r. ⌜ r ≡ biasedColor color (now (cells .entry)) i ⌝ }
 {
     let at = 3 * i;
     let r = biased_at(cells, at, color.0.r);
@@ -73,11 +80,11 @@ pub fn biased_color(cells: &[f32], i: usize, color: NormalizedColor) -> Normaliz
     NormalizedColor::new(r, g, b, color.0.a)
 }
 
-// What is left of a biased byte where another byte is chosen.
-fn residual(biased: u8, chosen: u8) -> f32
-    ensures { λ r. ⌜ Residual (pos biased -ℤ pos chosen) r ⌝ }
+// What is left of a biased byte where another byte is chosen: from -255 to 255.
+fn residual(biased: u8, chosen: u8) -> i16
+    ensures { λ r. ⌜ (r ≡ pos biased -ℤ pos chosen) × (natAbs r ≤ 255) ⌝ }
 {
-    biased as f32 - chosen as f32
+    biased as i16 - chosen as i16
 }
 
 // ---- sends
@@ -109,134 +116,139 @@ fn land(width: u32, height: u32, x: u32, y: u32, dx: i32, dy: u32) -> Landing
     Landing::Pixel((ny * width + column) as usize)
 }
 
-// Weight times residual, to one cell. No public call: the caller sees to the place.
-fn send_one(cells: &mut [f32], at: usize, residual: f32, ratio: f32)
-    requires { ⌜ at < length (now cells) ⌝ }
-    ensures { λ _. ⌜ ((zs : List ℤ) (r : ℤ) (w : ℕ) → Cells 65536 (now (cells .entry)) zs → Residual r residual
-        → ratio ≡ sixteenths (pos w) → 0 < w → w ≤ 16 → now (cells .exit) ≡ map sixteenths (more zs at (r *ℤ pos w))) ⌝ }
+// Weight times residual, to one cell. No public call: the caller sees to the place, the residual and the room.
+fn send_one(cells: &mut [i16], at: usize, residual: i16, weight: u8)
+    requires { ⌜ (at < length (now cells)) × (natAbs residual ≤ 255) × RoomIn (now cells) at weight ⌝ }
+    ensures { λ _. ⌜ now (cells .exit) ≡ more (now (cells .entry)) at (residual *ℤ pos weight) ⌝ }
 {
-    cells[at] = cells[at] + residual * ratio;
+    cells[at] = cells[at] + residual * weight as i16;
 }
 
-// Weight times residual, to the three cells of the pixel i. No public call: the caller sees to the place.
-fn send_three(cells: &mut [f32], i: usize, r: f32, g: f32, b: f32, ratio: f32)
-    requires { ⌜ (3 * i + 2 < length (now cells)) × (i < 16777216) ⌝ }
-    ensures { λ _. ⌜ ((zs : List ℤ) (rs : ℕ → ℤ) (w : ℕ) → Cells 8160 (now (cells .entry)) zs → Residuals rs r g b
-        → ratio ≡ sixteenths (pos w) → 0 < w → w ≤ 16 → now (cells .exit) ≡ map sixteenths (send zs rs (pixel i) w)) ⌝ }
+// Weight times residual, to the three cells of the pixel i. No public call: the caller sees to the place, the residuals and
+// the room.
+fn send_three(cells: &mut [i16], i: usize, r: i16, g: i16, b: i16, weight: u8)
+    requires { ⌜ (3 * i + 2 < length (now cells)) × (i < 16777216) × Residuals r g b × RoomAt (now cells) (pixel i) weight ⌝ }
+    ensures { λ _. ⌜ now (cells .exit) ≡ send (now (cells .entry)) (inOrder r g b) (pixel i) weight ⌝ }
 {
     let at = 3 * i;
-    send_one(cells, at, r, ratio);
-    send_one(cells, at + 1, g, ratio);
-    send_one(cells, at + 2, b, ratio);
+    send_one(cells, at, r, weight);
+    send_one(cells, at + 1, g, weight);
+    send_one(cells, at + 2, b, weight);
 }
 
 // Weight times residual, to one target of the pixel in column x and row y; nothing where the target is outside the
-// picture. No public call: the caller sees to the pixel, the buffer's length and near offsets.
+// picture. No public call: the caller sees to the pixel, the buffer's length, near offsets, the residuals and the room.
 fn send_target(
-    cells: &mut [f32],
+    cells: &mut [i16],
     width: u32,
     height: u32,
     x: u32,
     y: u32,
-    r: f32,
-    g: f32,
-    b: f32,
+    r: i16,
+    g: i16,
+    b: i16,
     dx: i32,
     dy: u32,
-    ratio: f32,
+    weight: u8,
 )
-    requires { ⌜ Spot width height x y × (length (now cells) ≡ 3 * (width * height)) × (natAbs dx ≤ 16) × (dy ≤ 16) ⌝ }
-    ensures { λ _. ⌜ ((zs : List ℤ) (rs : ℕ → ℤ) (w : ℕ) → Cells 8160 (now (cells .entry)) zs → Residuals rs r g b
-        → ratio ≡ sixteenths (pos w) → 0 < w → w ≤ 16 → now (cells .exit) ≡ map sixteenths (send zs rs (place width height (pos x +ℤ dx) (y + dy)) w)) ⌝ }
+    requires { ⌜ Spot width height x y × (length (now cells) ≡ 3 * (width * height)) × (natAbs dx ≤ 16) × (dy ≤ 16) × Residuals r g b
+        × RoomAt (now cells) (place width height (pos x +ℤ dx) (y + dy)) weight ⌝ }
+    ensures { λ _. ⌜ now (cells .exit) ≡ send (now (cells .entry)) (inOrder r g b) (place width height (pos x +ℤ dx) (y + dy)) weight ⌝ }
 {
     if let Landing::Pixel(i) = land(width, height, x, y, dx, dy) {
-        send_three(cells, i, r, g, b, ratio);
+        send_three(cells, i, r, g, b, weight);
     }
 }
 
 // The sends of the pixel in column x and row y, by the kernel whose targets the three arrays hold. No public call: the
-// caller sees to the pixel, the buffer's length and the kernel.
+// caller sees to the pixel, the buffer's length, the kernel, the residuals and the room.
 fn diffuse(
-    cells: &mut [f32],
+    cells: &mut [i16],
     width: u32,
     height: u32,
     x: u32,
     y: u32,
-    r: f32,
-    g: f32,
-    b: f32,
+    r: i16,
+    g: i16,
+    b: i16,
     dx: &[i32],
     dy: &[u32],
-    ratio: &[f32],
+    weight: &[u8],
 )
-    requires { ⌜ Spot width height x y × (length (now cells) ≡ 3 * (width * height)) × ((k : List Target) × Arrays k (now dx) (now dy) (now ratio)) ⌝ }
-    ensures { λ _. ⌜ ((k : List Target) → Arrays k (now (dx .entry)) (now (dy .entry)) (now (ratio .entry))
-        → PassedOn k width height (y * width + x) r g b (now (cells .entry)) (now (cells .exit))) ⌝ }
+    requires { ⌜ Spot width height x y × (length (now cells) ≡ 3 * (width * height)) × Residuals r g b
+        × ((k : List Target) × Arrays k (now dx) (now dy) (now weight) × Room k width height (y * width + x) (now cells)) ⌝ }
+    ensures { λ _. ⌜ ((k : List Target) → Arrays k (now (dx .entry)) (now (dy .entry)) (now (weight .entry))
+        → now (cells .exit) ≡ sends (now (cells .entry)) (inOrder r g b) k width height (y * width + x)) ⌝ }
 {
     let mut m: usize = 0;
     while m < dx.len() {
-        send_target(cells, width, height, x, y, r, g, b, dx[m], dy[m], ratio[m]);
+        send_target(cells, width, height, x, y, r, g, b, dx[m], dy[m], weight[m]);
         m += 1;
     }
 }
 
-// The same by Atkinson's kernel. No public call: the caller sees to the pixel and the buffer's length.
+// The same by Atkinson's kernel. No public call: the caller sees to the pixel, the buffer's length, the residuals and the
+// room.
 fn diffuse_atkinson(
-    cells: &mut [f32],
+    cells: &mut [i16],
     width: u32,
     height: u32,
     x: u32,
     y: u32,
-    r: f32,
-    g: f32,
-    b: f32,
+    r: i16,
+    g: i16,
+    b: i16,
 )
-    requires { ⌜ Spot width height x y × (length (now cells) ≡ 3 * (width * height)) ⌝ }
-    ensures { λ _. ⌜ PassedOn atkinson width height (y * width + x) r g b (now (cells .entry)) (now (cells .exit)) ⌝ }
+    requires { ⌜ Spot width height x y × (length (now cells) ≡ 3 * (width * height)) × Residuals r g b
+        × Room atkinson width height (y * width + x) (now cells) ⌝ }
+    ensures { λ _. ⌜ now (cells .exit) ≡ sends (now (cells .entry)) (inOrder r g b) atkinson width height (y * width + x) ⌝ }
 {
     let kernel = patterns::atkinson_kernel();
     let dx = kernel.dx;
     let dy = kernel.dy;
-    let ratio = kernel.ratio;
-    diffuse(cells, width, height, x, y, r, g, b, &dx, &dy, &ratio);
+    let weight = kernel.weight;
+    diffuse(cells, width, height, x, y, r, g, b, &dx, &dy, &weight);
 }
 
-// The same by Floyd-Steinberg's. No public call: the caller sees to the pixel and the buffer's length.
+// The same by Floyd-Steinberg's. No public call: the caller sees to the pixel, the buffer's length, the residuals and the
+// room.
 fn diffuse_floyd_steinberg(
-    cells: &mut [f32],
+    cells: &mut [i16],
     width: u32,
     height: u32,
     x: u32,
     y: u32,
-    r: f32,
-    g: f32,
-    b: f32,
+    r: i16,
+    g: i16,
+    b: i16,
 )
-    requires { ⌜ Spot width height x y × (length (now cells) ≡ 3 * (width * height)) ⌝ }
-    ensures { λ _. ⌜ PassedOn floydSteinberg width height (y * width + x) r g b (now (cells .entry)) (now (cells .exit)) ⌝ }
+    requires { ⌜ Spot width height x y × (length (now cells) ≡ 3 * (width * height)) × Residuals r g b
+        × Room floydSteinberg width height (y * width + x) (now cells) ⌝ }
+    ensures { λ _. ⌜ now (cells .exit) ≡ sends (now (cells .entry)) (inOrder r g b) floydSteinberg width height (y * width + x) ⌝ }
 {
     let kernel = patterns::floyd_steinberg_kernel();
     let dx = kernel.dx;
     let dy = kernel.dy;
-    let ratio = kernel.ratio;
-    diffuse(cells, width, height, x, y, r, g, b, &dx, &dy, &ratio);
+    let weight = kernel.weight;
+    diffuse(cells, width, height, x, y, r, g, b, &dx, &dy, &weight);
 }
 
-// The same by the kernel of a kind; a kind that has none sends nothing. No public call: the caller sees to the pixel and
-// the buffer's length.
+// The same by the kernel of a kind; a kind that has none sends nothing. No public call: the caller sees to the pixel, the
+// buffer's length, the residuals and the room.
 fn diffuse_kind(
     kind: u32,
-    cells: &mut [f32],
+    cells: &mut [i16],
     width: u32,
     height: u32,
     x: u32,
     y: u32,
-    r: f32,
-    g: f32,
-    b: f32,
+    r: i16,
+    g: i16,
+    b: i16,
 )
-    requires { ⌜ Spot width height x y × (length (now cells) ≡ 3 * (width * height)) ⌝ }
-    ensures { λ _. ⌜ PassedOn (kernelOf kind) width height (y * width + x) r g b (now (cells .entry)) (now (cells .exit)) ⌝ }
+    requires { ⌜ Spot width height x y × (length (now cells) ≡ 3 * (width * height)) × Residuals r g b
+        × Room (kernelOf kind) width height (y * width + x) (now cells) ⌝ }
+    ensures { λ _. ⌜ now (cells .exit) ≡ sends (now (cells .entry)) (inOrder r g b) (kernelOf kind) width height (y * width + x) ⌝ }
 {
     let Kind::Known(dither) = patterns::dither_of(kind) else {
         return;
@@ -252,11 +264,11 @@ fn diffuse_kind(
     }
 }
 
-// Passes on what is left of a biased colour where another colour is chosen. No public call: the caller sees to the pixel
-// and the buffer's length.
+// Passes on what is left of a biased colour where another colour is chosen. No public call: the caller sees to the pixel,
+// the buffer's length and the room.
 pub fn diffuse_residual(
     kind: u32,
-    cells: &mut [f32],
+    cells: &mut [i16],
     width: u32,
     height: u32,
     x: u32,
@@ -264,9 +276,10 @@ pub fn diffuse_residual(
     biased: NormalizedColor,
     chosen: NormalizedColor,
 )
-    requires { ⌜ Spot width height x y × (length (now cells) ≡ 3 * (width * height)) ⌝ }
-    ensures { λ _. ⌜ ((zs : List ℤ) → Cells 4080 (now (cells .entry)) zs
-        → now (cells .exit) ≡ map sixteenths (sends zs (residualsOf (biased .0) (chosen .0)) (kernelOf kind) width height (y * width + x))) ⌝ }
+    requires { ⌜ Spot width height x y × (length (now cells) ≡ 3 * (width * height))
+        × Room (kernelOf kind) width height (y * width + x) (now cells) ⌝ }
+    ensures { λ _. ⌜ now (cells .exit)
+        ≡ sends (now (cells .entry)) (residualsOf (biased .0) (chosen .0)) (kernelOf kind) width height (y * width + x) ⌝ }
 {
     let r = residual(biased.0.r, chosen.0.r);
     let g = residual(biased.0.g, chosen.0.g);

@@ -6,7 +6,8 @@ use mathlib.Core.List.{List, [], _∷_, _++_}
 use Prim.Native.Nat.{ℕ}
 use borrow.Author.Tests.{ne-eqb}
 use lib.ListN.{length, replicate}
-use lib.Ieee.{Float, ofBits, binary32}
+use lib.IntN.{ℤ, pos}
+use lib.Ieee.{Float}
 use Rattle.replies.specs.Replies.{Reply, _if_, firstReply, after, NoneApplies}
 use Rattle.replies.proofs.ReplyLaws.{reply-zero, reply-none, reply-at, reply-front, reply-other, none-both, after-refused}
 use Rattle.drawing.specs.Lent.{cellsAfter}
@@ -18,10 +19,10 @@ use Rattle.dither.specs.Mode.{numberOf, answerOf, leaves, outAfter, cell
 use Rattle.dither.specs.Steps.{Completes}
 
 -- ---- the two ends of a picture whose candidates have places
-module _ (q : Commission) {out₀ : List ℕ} {cells₀ : List Float} {count : ℕ} (counted : count ≡ length (candidateList q)) {out : List ℕ} {cells : List Float}
+module _ (q : Commission) {out₀ : List ℕ} {cells₀ : List ℤ} {count : ℕ} (counted : count ≡ length (candidateList q)) {out : List ℕ} {cells : List ℤ}
   where
     pub completed-over : (tile : ℕ) → (overBudget q ≡ true) × (tile ≡ tileOver q) → out ≡ replicate (length out₀) 0
-        → cells ≡ replicate (length cells₀) (ofBits binary32 0) → Completes q out₀ cells₀ (Over tile count) out cells
+        → cells ≡ replicate (length cells₀) (pos 0) → Completes q out₀ cells₀ (Over tile count) out cells
     completed-over tile v o c = record { answer = rw (v .0) (λ t. Over (v .1 t) (counted t)); picture = rw (v .0) o; cell-buffer = rw (v .0) c }
 
     pub completed : overBudget q ≡ false → out ≡ pixelsOf q → cells ≡ cellsAfter (dithering q) cells₀ → Completes q out₀ cells₀ (Count count) out cells
@@ -39,7 +40,7 @@ module _ (q : Commission) (was : Buffers) where
   eight = 8 if overBudget q
 
   -- what is answered and left with number n
-  call-is : {r : Dithered} {places out : List ℕ} {oklab cells : List Float} (n : ℕ) → firstReply (replies q was) ≡ n → numberOf r ≡ n → r ≡ answerOf q n
+  call-is : {r : Dithered} {places out : List ℕ} {oklab : List Float} {cells : List ℤ} (n : ℕ) → firstReply (replies q was) ≡ n → numberOf r ≡ n → r ≡ answerOf q n
       → places ≡ placesAfter q (was .places) n → oklab ≡ oklabAfter q (was .oklab) n → out ≡ outAfter q (was .out) n → cells ≡ cellsLeft q (was .cells) n
       → DitheredToMode q was r (buffers places oklab out cells)
   call-is n l number answer places oklab out cells = record {
@@ -78,7 +79,7 @@ module _ (q : Commission) (was : Buffers) where
     unfolding answerOf placesAfter oklabAfter outAfter cellsLeft
     call-full t p o = call-is 7 (reply-at before seven (eight ∷ []) none t) refl refl p o refl refl
 
-    pub call-completed : {r : Dithered} {places out : List ℕ} {oklab cells : List Float} → tooMany (candidateList q) (was .places) ≡ false
+    pub call-completed : {r : Dithered} {places out : List ℕ} {oklab : List Float} {cells : List ℤ} → tooMany (candidateList q) (was .places) ≡ false
         → places ≡ placesWith (candidateList q) (was .places) → oklab ≡ oklabWith (q .scale) (candidateList q) (was .oklab)
         → Completes q (was .out) (was .cells) r out cells → DitheredToMode q was r (buffers places oklab out cells)
     unfolding answerOf placesAfter oklabAfter outAfter cellsLeft
@@ -86,7 +87,7 @@ module _ (q : Commission) (was : Buffers) where
       where
         go : (b : Bool) → overBudget q ≡ b → r ≡ cond b (Over (tileOver q) (length (candidateList q))) (Count (length (candidateList q)))
             → out ≡ cond b (replicate (length (was .out)) 0) (pixelsOf q)
-            → cells ≡ cond b (replicate (length (was .cells)) (ofBits binary32 0)) (cellsAfter (dithering q) (was .cells))
+            → cells ≡ cond b (replicate (length (was .cells)) (pos 0)) (cellsAfter (dithering q) (was .cells))
             → DitheredToMode q was r (buffers places oklab out cells)
         go true b a x y =
             call-is 8 (reply-at (before ++ seven ∷ []) eight [] (none-both before (seven ∷ []) none (t, tt)) b) (ap numberOf a) a p o x y

@@ -5,6 +5,7 @@ use mathlib.Core.List.{List}
 use Prim.Native.Nat.{ℕ, _*_, _<_}
 use native.Mathlib.Nat.{le-of-eq}
 use lib.ListN.{length, getD, take}
+use lib.IntN.{ℤ}
 use lib.Ieee.{Float}
 use Rattle.color.specs.Color.{reducedAt}
 use Rattle.mixing.specs.Widths.{widthOf}
@@ -24,7 +25,7 @@ module _ (q : Commission) {places : List ℕ} {oklab : List Float} {count : ℕ}
       → drawingOf (dithererOf (q .settings) width) (q .settings .zero) (lentOf q (take (4 * count) places) (take (3 * count) oklab) count) ≡ dithering q
   same-picture width e = λ t. drawingOf (dithererOf (q .settings) (e t)) (q .settings .zero) (lentOf q (r .colors t) (r .converted t) (r .counted t))
 
-  module _ {out : List ℕ} {cells : List Float} (f : Fitting q out cells) where
+  module _ {out : List ℕ} {cells : List ℤ} (f : Fitting q out cells) where
     pub ready : (width : ℕ) → ((k : ℕ) → getD (q .reduction) k 0 < 256) → ((k : ℕ) → getD (q .scale) k 0 < 256)
         → Ready (dithererOf (q .settings) width) (q .settings .zero) (lentOf q (take (4 * count) places) (take (3 * count) oklab) count)
     ready width reduces scales = record {
@@ -41,7 +42,7 @@ module _ (q : Commission) {places : List ℕ} {oklab : List Float} {count : ℕ}
       some = λ i h s. rw (r .counted) (some-candidate (q .settings .zero) (q .reduction) (q .pixels) (size q) reduces i h s);
     }
 
-module _ (q : Commission) {out₀ : List ℕ} {cells₀ : List Float} (f : Fitting q out₀ cells₀) (reduced : List ℕ) (e : reduced ≡ reducedBytes (dithering q)) where
+module _ (q : Commission) {out₀ : List ℕ} {cells₀ : List ℤ} (f : Fitting q out₀ cells₀) (reduced : List ℕ) (e : reduced ≡ reducedBytes (dithering q)) where
   -- colour i of the drawn bytes is pixel i's choice
   pub at : (i : ℕ) → i < size q → reducedAt reduced i ≡ chosen q i
   at i h = ap (λ (l : List ℕ). reducedAt l i) e ∙ bytes-at (dithering q) i h

@@ -1,15 +1,17 @@
 -- What `dither_to_mode` answers, and what its four lent buffers hold afterwards. Definitions only.
 -- Written from document 01, "Choosing colours" ("`dither_to_mode` uses source origin plus position", "max is .. the tile limit in
 -- `dither_to_mode`", "In `dither_to_mode` a non-transparent pixel whose reduced rgb equals colour zero's keeps its reduced colour") and "Bounds and
--- replies"; and from document 02, Ask 9: "15 for kinds 5 and 6 in every call that takes a kind, directly after 1". The candidates, the drawn picture
--- and the judged tiles are defined in `candidates`, `drawing` and `judging`.
+-- replies"; and from document 02, Ask 9: "15 for kinds 5 and 6 in every call that takes a kind, directly after 1"; Ask 11: "signed 16-bit counts of
+-- sixteenths, three a pixel", "3 measures the new length". The candidates, the drawn picture and the judged tiles are defined in `candidates`,
+-- `drawing` and `judging`.
 use Prim.Native.Nat.{ℕ, _*_}
 use mathlib.Core.Path.{_≡_}
 use mathlib.Core.Bool.{Bool, cond, not, _||_}
 use mathlib.Core.List.{List, [], _∷_, _++_}
 use lib.Dec.{eqb, ltb}
+use lib.IntN.{ℤ, pos}
 use lib.ListN.{length, replicate}
-use lib.Ieee.{Float, ofBits, binary32}
+use lib.Ieee.{Float}
 use Rattle.lists.specs.Gather.{gather}
 use Rattle.replies.specs.Replies.{Reply, _if_, after}
 use Rattle.replies.specs.Answers.{Answers}
@@ -48,9 +50,9 @@ pub record Buffers : Type 0 where
   pub places : List ℕ
   pub oklab : List Float
   pub out : List ℕ
-  pub cells : List Float
+  pub cells : List ℤ
 
-abbrev pub buffers : List ℕ → List Float → List ℕ → List Float → Buffers
+abbrev pub buffers : List ℕ → List Float → List ℕ → List ℤ → Buffers
 buffers places oklab out cells = record { places = places; oklab = oklab; out = out; cells = cells }
 
 -- how many pixels the picture has
@@ -173,8 +175,8 @@ unfoldable pub outAfter : Commission → List ℕ → ℕ → List ℕ
 outAfter q was n = leaves n (pixelsOf q) (replicate (length was) 0) was
 
 -- the cells: those of the drawn picture, all 0 after 8, or as they were
-unfoldable pub cellsLeft : Commission → List Float → ℕ → List Float
-cellsLeft q was n = leaves n (cellsAfter (dithering q) was) (replicate (length was) (ofBits binary32 0)) was
+unfoldable pub cellsLeft : Commission → List ℤ → ℕ → List ℤ
+cellsLeft q was n = leaves n (cellsAfter (dithering q) was) (replicate (length was) (pos 0)) was
 
 -- the places: the candidates, after 8 too; all 0 after 7; or as they were
 unfoldable pub placesAfter : Commission → List ℕ → ℕ → List ℕ

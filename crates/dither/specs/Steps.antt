@@ -4,8 +4,9 @@ use Prim.Native.Nat.{ℕ, _+_, _*_, _≤_}
 use mathlib.Core.Path.{_≡_}
 use mathlib.Core.Bool.{true, cond}
 use mathlib.Core.List.{List}
+use lib.IntN.{ℤ, pos}
 use lib.ListN.{length, take, replicate}
-use lib.Ieee.{Float, ofBits, binary32}
+use lib.Ieee.{Float}
 use Rattle.patterns.specs.Kinds.{isDiffusion}
 use Rattle.mixing.specs.Widths.{isShift}
 use Rattle.drawing.specs.Lent.{cellsAfter}
@@ -14,7 +15,7 @@ use Rattle.dither.specs.declared.Dithered.the-variants.{Count, Over}
 use Rattle.dither.specs.Mode.{Commission, size, candidateList, candidateBytes, candidateOklab, dithering, tileOver, overBudget, pixelsOf}
 
 -- what a picture has that no check refuses
-pub record Fitting (q : Commission) (out : List ℕ) (cells : List Float) : Type 0 where
+pub record Fitting (q : Commission) (out : List ℕ) (cells : List ℤ) : Type 0 where
   pub shift : isShift (q .settings .shift) ≡ true
   pub wide : q .settings .width ≤ 4096
   pub high : q .settings .height ≤ 4096
@@ -41,7 +42,7 @@ pub record Roomed (q : Commission) (places : List ℕ) (oklab : List Float) (cou
   pub converted : take (3 * count) oklab ≡ candidateOklab (q .scale) (candidateList q)
 
 -- the answer, the output pixels and the cells of a picture whose candidates have places
-pub record Completes (q : Commission) (out₀ : List ℕ) (cells₀ : List Float) (r : Dithered) (out : List ℕ) (cells : List Float) : Type 0 where
+pub record Completes (q : Commission) (out₀ : List ℕ) (cells₀ : List ℤ) (r : Dithered) (out : List ℕ) (cells : List ℤ) : Type 0 where
   pub answer : r ≡ cond (overBudget q) (Over (tileOver q) (length (candidateList q))) (Count (length (candidateList q)))
   pub picture : out ≡ cond (overBudget q) (replicate (length out₀) 0) (pixelsOf q)
-  pub cell-buffer : cells ≡ cond (overBudget q) (replicate (length cells₀) (ofBits binary32 0)) (cellsAfter (dithering q) cells₀)
+  pub cell-buffer : cells ≡ cond (overBudget q) (replicate (length cells₀) (pos 0)) (cellsAfter (dithering q) cells₀)

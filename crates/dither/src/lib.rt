@@ -8,7 +8,7 @@ use judging::Judged;
 ghost use mathlib.Core.Path.{_≡_};
 ghost use Prim.Native.Nat.{_*_, _≤_};
 ghost use lib.ListN.{length, replicate};
-ghost use lib.Ieee.{ofBits, binary32};
+ghost use lib.IntN.{pos};
 ghost use Rattle.replies.specs.Replies.{firstReply};
 ghost use Rattle.drawing.specs.Lent.{reducedBytes, cellsAfter};
 ghost use Rattle.drawing.specs.Turns.{Linear};
@@ -116,7 +116,7 @@ fn choose(
     oklab: &[f32],
     count: usize,
     out: &mut [u8],
-    cells: &mut [f32],
+    cells: &mut [i16],
 )
     requires { ⌜ (let q = commission s (now reduction) (now scale) (now pixels) in
         Linear (now linear) × Fitting q (now out) (now cells) × Roomed q (now places) (now oklab) count) ⌝ }
@@ -153,12 +153,12 @@ fn choose(
 // ---- the call
 
 // Sets the output pixels and the cells to 0, as they are left where a tile is over its limit.
-fn wipe(out: &mut [u8], cells: &mut [f32])
+fn wipe(out: &mut [u8], cells: &mut [i16])
     ensures { λ _. ⌜ (now (out .exit) ≡ replicate (length (now (out .entry))) 0)
-        × (now (cells .exit) ≡ replicate (length (now (cells .entry))) (ofBits binary32 0)) ⌝ }
+        × (now (cells .exit) ≡ replicate (length (now (cells .entry))) (pos 0)) ⌝ }
 {
     lists::zero_bytes(out);
-    lists::zero_floats(cells);
+    lists::zero_i16s(cells);
 }
 
 // Dithers a picture that is accepted so far and whose candidates are collected. No public call: the caller sees to the
@@ -173,7 +173,7 @@ fn dither(
     oklab: &[f32],
     count: usize,
     out: &mut [u8],
-    cells: &mut [f32],
+    cells: &mut [i16],
 ) -> Dithered
     requires { ⌜ (let q = commission s (now reduction) (now scale) (now pixels) in
         Linear (now linear) × Fitting q (now out) (now cells) × Roomed q (now places) (now oklab) count × (count ≤ 65536)) ⌝ }
@@ -226,7 +226,7 @@ pub fn dither_to_mode(
     places: &mut [u8],
     oklab: &mut [f32],
     out: &mut [u8],
-    cells: &mut [f32],
+    cells: &mut [i16],
 ) -> Dithered
     ensures { λ r. ⌜ DitheredToMode (commission settings (now (reduction .entry)) (now (scale .entry)) (now (pixels .entry)))
         (buffers (now (places .entry)) (now (oklab .entry)) (now (out .entry)) (now (cells .entry)))

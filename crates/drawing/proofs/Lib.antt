@@ -5,6 +5,6 @@ pub mod CandidateLaws
 pub mod OutputLaws
 pub mod FinishedLaws
 mod PlaceLaws
-mod TurnLaws
+pub mod TurnLaws
 mod StepLaws
 mod FinishLaws

@@ -3,14 +3,13 @@
 use mathlib.Core.Path.{_≡_, sym, ap, _∙_, subst}
 use mathlib.Core.Bool.{Bool, true, false}
 use lib.ListN.{replicate}
-use mathlib.Core.List.{List, map}
+use mathlib.Core.List.{List}
 use Prim.Native.Nat.{ℕ, _+_, _*_, _/_, _%_, _≤_, _<_}
 use native.Mathlib.Nat.{div-add-mod'}
 use native.Mathlib.Omega.{arith}
 use lib.Dec.{T}
 use lib.IntN.{ℤ}
 use lib.Ieee.{Float}
-use Rattle.floats.specs.Over.{sixteenths}
 use Rattle.color.specs.declared.Rgba8888.{Rgba8888}
 use Rattle.color.specs.declared.NormalizedColor.{NormalizedColor}
 use Rattle.color.specs.declared.ReducedColor.{ReducedColor}
@@ -87,17 +86,17 @@ module _ (cs : Candidates) (width : ℕ) (c : NormalizedColor) (at : BracketAt) 
       let t : threshold ≡ thresholdAt kind x′ y′ = found ∙ (λ q. thresholdAt kind (X q) (Y q)) in
       picked-taken cs some range width (toOklab c) c (thresholdAt kind x′ y′) r (picked ∙ (λ q. choiceAt (b q) (t q)))
 
-pub diffused-is : (t : Ditherer) (cs : Candidates) (scale : List ℕ) (zs : List ℤ) (i : ℕ) (color biased normalized : NormalizedColor) (c : Choice)
-    (x y : ℕ) (cells : List Float)
-    → biased ≡ biasedColor color zs i → Takes cs (nearestColor cs biased) c → normalized ≡ normalizeColor scale (c .color) → x ≡ i % t .width
+pub diffused-is : (t : Ditherer) (cs : Candidates) (scale : List ℕ) (was : List ℤ) (i : ℕ) (color biased normalized : NormalizedColor) (c : Choice)
+    (x y : ℕ) (cells : List ℤ)
+    → biased ≡ biasedColor color was i → Takes cs (nearestColor cs biased) c → normalized ≡ normalizeColor scale (c .color) → x ≡ i % t .width
     → y ≡ i / t .width
-    → cells ≡ map sixteenths (sends zs (residualsOf (biased .0) (normalized .0)) (kernelOf (t .kind)) (t .width) (t .height) (y * t .width + x))
-    → Diffused t cs scale zs i color c cells
-diffused-is t cs scale zs i color biased normalized c x y cells B C N X Y passed =
+    → cells ≡ sends was (residualsOf (biased .0) (normalized .0)) (kernelOf (t .kind)) (t .width) (t .height) (y * t .width + x)
+    → Diffused t cs scale was i color c cells
+diffused-is t cs scale was i color biased normalized c x y cells B C N X Y passed =
     let at : y * t .width + x ≡ i = (λ q. Y q * t .width + X q) ∙ div-add-mod' i (t .width) in
     record {
       choice = subst (λ (o : NormalizedColor). Takes cs (nearestColor cs o) c) B C;
-      passed = passed ∙ (λ q. map sixteenths (sends zs (residualsOf (B q .0) (N q .0)) (kernelOf (t .kind)) (t .width) (t .height) (at q)));
+      passed = passed ∙ (λ q. sends was (residualsOf (B q .0) (N q .0)) (kernelOf (t .kind)) (t .width) (t .height) (at q));
     }
 
 -- a pixel that is not skipped, where no error is diffused

@@ -1,16 +1,13 @@
--- A diffused picture pixel by pixel: how its cells begin, how large they are, what a skipped and a dithered pixel choose and leave behind, and how the
+-- A diffused picture pixel by pixel: how its cells begin, what room they have, what a skipped and a dithered pixel choose and leave behind, and how the
 -- cells end. Stated of the pictures that the code draws, for a loop's invariant. Assumes nothing.
-use mathlib.Core.Path.{_≡_, refl, sym, ap, _∙_}
+use mathlib.Core.Path.{_≡_, refl, sym, ap, _∙_, subst}
 use mathlib.Core.Bool.{Bool, true, false, not, cond}
-use mathlib.Core.List.{List, map}
+use mathlib.Core.List.{List}
 use Prim.Native.Nat.{ℕ, zero, suc, _+_, _*_, _/_, _%_, _≤_, _<_}
 use native.Mathlib.Nat.{div-add-mod'}
 use lib.Dec.{lit<}
-use lib.IntN.{ℤ}
+use lib.IntN.{ℤ, pos}
 use lib.ListN.{length, getD, replicate}
-use lib.Ieee.{Float, binary32, ofBits}
-use Rattle.floats.specs.Over.{sixteenths}
-use Rattle.floats.specs.Cells.{Cells}
 use Rattle.color.specs.declared.NormalizedColor.{NormalizedColor}
 use Rattle.color.specs.declared.ReducedColor.{ReducedColor}
 use Rattle.color.specs.Color.{rgba}
@@ -22,8 +19,8 @@ use Rattle.lookup.specs.declared.Choice.{Choice}
 use Rattle.diffusion.specs.Biased.{biasedColor}
 use Rattle.diffusion.specs.Diffusion.{Picture}
 use Rattle.diffusion.specs.Scatter.{sends, scatter, cellBuffer}
-use Rattle.diffusion.specs.Sends.{byteIn, residualsOf}
-use Rattle.diffusion.proofs.Steps.{step-begin, step-length, step-cells, step-biased, step-skipped, step-dithered, step-end}
+use Rattle.diffusion.specs.Sends.{byteIn, residualsOf, Room}
+use Rattle.diffusion.proofs.Steps.{step-begin, step-length, step-room, step-biased, step-skipped, step-dithered, step-end}
 use Rattle.drawing.specs.declared.ColorZero.{ColorZero}
 use Rattle.drawing.specs.declared.Ditherer.{Ditherer}
 use Rattle.drawing.specs.Drawing.{Drawing, nearestColor, pictureOf, biasedIn, biasedAt, drawn}
@@ -34,7 +31,7 @@ use Rattle.drawing.proofs.DrawnLaws.{drawn-diffused}
 use Rattle.drawing.proofs.PositionLaws.{takes-dithered}
 
 -- a normalised byte is an entry of the table, or 0
-scaled-byte : (scale : List ℕ) → ((v : ℕ) → getD scale v 0 ≤ 255) → (a : ℕ) (c : ReducedColor) → byteIn a (normalizeColor scale c .0) ≤ 255
+pub scaled-byte : (scale : List ℕ) → ((v : ℕ) → getD scale v 0 ≤ 255) → (a : ℕ) (c : ReducedColor) → byteIn a (normalizeColor scale c .0) ≤ 255
 unfolding normalizeColor
 scaled-byte scale bytes zero c = bytes (c .0 .r)
 scaled-byte scale bytes (suc zero) c = bytes (c .0 .g)
@@ -56,23 +53,23 @@ module _ (d : Drawing) where
       at : (a : ℕ) → a < 3 → byteIn a (biasedColor (d .source i) (scatter k p i) i .0) ≡ biasedIn d (drawn d) a i
       at a A = step-biased k p a i (d .source i) A inside refl
 
-  pub turn-begin : (m : ℕ) (cells : List Float) → m ≡ 3 * (d .width * d .height) → cells ≡ replicate m (ofBits binary32 0) → cells ≡ cellsBefore d 0
+  pub turn-begin : (m : ℕ) (cells : List ℤ) → m ≡ 3 * (d .width * d .height) → cells ≡ replicate m (pos 0) → cells ≡ cellsBefore d 0
   unfolding cellsBefore
   turn-begin m cells e z = step-begin k p m cells e z
 
-  pub turn-length : (i : ℕ) (cells : List Float) → i ≤ d .width * d .height → cells ≡ cellsBefore d i → length cells ≡ 3 * (d .width * d .height)
+  pub turn-length : (i : ℕ) (cells : List ℤ) → i ≤ d .width * d .height → cells ≡ cellsBefore d i → length cells ≡ 3 * (d .width * d .height)
   unfolding cellsBefore
   turn-length i cells l is = step-length k p i l cells is
 
-  pub turn-skipped : (i : ℕ) (cells : List Float) → d .skipped i ≡ true → cells ≡ cellsBefore d i → cells ≡ cellsBefore d (i + 1)
+  pub turn-skipped : (i : ℕ) (cells : List ℤ) → d .skipped i ≡ true → cells ≡ cellsBefore d i → cells ≡ cellsBefore d (i + 1)
   unfolding cellsBefore
-  turn-skipped i cells s is = is ∙ ap (map sixteenths) (sym (step-skipped k p i (ap not s)))
+  turn-skipped i cells s is = is ∙ sym (step-skipped k p i (ap not s))
 
-  pub turn-end : isDiffusion (d .kind) ≡ true → (cells was : List Float) → cells ≡ cellsBefore d (d .width * d .height) → cells ≡ cellsAfter d was
+  pub turn-end : isDiffusion (d .kind) ≡ true → (cells was : List ℤ) → cells ≡ cellsBefore d (d .width * d .height) → cells ≡ cellsAfter d was
   unfolding cellsBefore cellsAfter
   turn-end diffuses cells was is = step-end k p (kernel-later (d .kind)) cells is ∙ sym (ap (λ (b : Bool). cond b (cellBuffer k p) was) diffuses)
 
-  pub turn-none : isDiffusion (d .kind) ≡ false → (was : List Float) → was ≡ cellsAfter d was
+  pub turn-none : isDiffusion (d .kind) ≡ false → (was : List ℤ) → was ≡ cellsAfter d was
   unfolding cellsAfter
   turn-none not-diffuses was = sym (ap (λ (b : Bool). cond b (cellBuffer k p) was) not-diffuses)
 
@@ -83,16 +80,24 @@ module _ (t : Ditherer) (zero : ColorZero) (l : Lent) where
   abbrev before : ℕ → List ℤ
   before i = scatter (kernelOf (t .kind)) (pictureOf d (drawn d)) i
 
-  pub turn-cells : ((v : ℕ) → getD (l .scale) v 0 ≤ 255) → (i : ℕ) (cells : List Float) → i ≤ t .width * t .height
-      → cells ≡ cellsBefore d i → Cells 4080 cells (before i)
+  -- the buffer at that turn is `scatter`'s
+  turn-scattered : (i : ℕ) (cells : List ℤ) → cells ≡ cellsBefore d i → cells ≡ before i
   unfolding cellsBefore
-  turn-cells bytes i cells h is =
-      step-cells (kernelOf (t .kind)) (pictureOf d (drawn d)) i h cells is (kernel-total (t .kind)) (λ a j A. scaled-byte (l .scale) bytes a (drawn d j))
+  turn-scattered i cells is = is
+
+  pub turn-room : ((v : ℕ) → getD (l .scale) v 0 ≤ 255) → (i : ℕ) (cells : List ℤ) → i ≤ t .width * t .height
+      → cells ≡ cellsBefore d i → Room (kernelOf (t .kind)) (t .width) (t .height) i cells
+  unfolding cellsBefore
+  turn-room bytes i cells h is =
+      step-room (kernelOf (t .kind)) (pictureOf d (drawn d)) i h cells is (kernel-total (t .kind)) (λ a j A. scaled-byte (l .scale) bytes a (drawn d j))
 
   -- a dithered pixel: what it chose, and the cells that it left
   module _ (i : ℕ) (inside : i < t .width * t .height) (dithers : d .skipped i ≡ false) (diffuses : isDiffusion (t .kind) ≡ true)
       (color : NormalizedColor) (own : color ≡ d .source i)
-      (c : Choice) (cells : List Float) (made : Diffused t (d .candidates) (l .scale) (before i) i color c cells) where
+      (c : Choice) (was cells : List ℤ) (at-turn : was ≡ cellsBefore d i) (left : Diffused t (d .candidates) (l .scale) was i color c cells) where
+    made : Diffused t (d .candidates) (l .scale) (before i) i color c cells
+    made = subst (λ (was : List ℤ). Diffused t (d .candidates) (l .scale) was i color c cells) (turn-scattered i was at-turn) left
+
     nearest-drawn : nearestColor (d .candidates) (biasedColor color (before i) i) ≡ drawn d i
     nearest-drawn =
         ap (λ (x : NormalizedColor). nearestColor (d .candidates) (biasedColor x (before i) i)) own
@@ -115,6 +120,6 @@ module _ (t : Ditherer) (zero : ColorZero) (l : Lent) where
         k′ = kernelOf (t .kind)
 
         -- the cells, where the residual is passed on from pixel j
-        passedTo : ℕ → List Float
+        passedTo : ℕ → List ℤ
         passedTo j =
-            map sixteenths (sends (before i) (residualsOf (biasedColor color (before i) i .0) (normalizeColor (l .scale) (c .color) .0)) k′ (t .width) (t .height) j)
+            sends (before i) (residualsOf (biasedColor color (before i) i .0) (normalizeColor (l .scale) (c .color) .0)) k′ (t .width) (t .height) j

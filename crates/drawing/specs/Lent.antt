@@ -4,6 +4,7 @@ use Prim.Native.Nat.{ℕ, _+_, _*_, _≤_, _<_}
 use mathlib.Core.Path.{_≡_}
 use mathlib.Core.Bool.{Bool, false, cond, _||_}
 use mathlib.Core.List.{List}
+use lib.IntN.{ℤ}
 use lib.ListN.{length}
 use lib.Ieee.{Float}
 use Rattle.lists.specs.Gather.{gather}
@@ -71,8 +72,8 @@ pixelBytes d i = bytesOf (drawn d i .0)
 unfoldable pub reducedBytes : Drawing → List ℕ
 reducedBytes d = gather (d .width * d .height) (pixelBytes d)
 
--- the cells after a picture is drawn: its sixteenths for a diffusion kind, and otherwise what was lent
-unfoldable pub cellsAfter : Drawing → List Float → List Float
+-- the cells after a picture is drawn: its own for a diffusion kind, and otherwise what was lent
+unfoldable pub cellsAfter : Drawing → List ℤ → List ℤ
 cellsAfter d was = cond (isDiffusion (d .kind)) (cellBuffer (kernelOf (d .kind)) (pictureOf d (drawn d))) was
 
 -- all that is lent fits the picture

@@ -3,11 +3,10 @@
 use Prim.Native.Nat.{ℕ, _+_, _*_, _≤_, _<_}
 use mathlib.Core.Path.{_≡_}
 use mathlib.Core.Bool.{Bool, true, false}
-use mathlib.Core.List.{List, map}
+use mathlib.Core.List.{List}
 use lib.IntN.{ℤ}
 use lib.ListN.{length}
 use lib.Ieee.{Float}
-use Rattle.floats.specs.Over.{sixteenths}
 use Rattle.color.specs.declared.NormalizedColor.{NormalizedColor}
 use Rattle.color.specs.Tables.{normalizeColor}
 use Rattle.conversion.specs.Linear.{values}
@@ -42,18 +41,17 @@ pub record Inside (t : Ditherer) (i : ℕ) : Type 0 where
   pub across : t .«origin_x» + t .width ≤ 4294967295
   pub down : t .«origin_y» + t .height ≤ 4294967295
 
--- pixel i of that colour, whose cells are among the sixteenths zs: c is the nearest to its biased colour, and the cells are those after the
--- biased colour's residual is passed on
-pub record Diffused (t : Ditherer) (cs : Candidates) (scale : List ℕ) (zs : List ℤ) (i : ℕ) (color : NormalizedColor)
-    (c : Choice) (cells : List Float) : Type 0 where
-  pub choice : Takes cs (nearestColor cs (biasedColor color zs i)) c
+-- pixel i of that colour, whose cells are among `was`: c is the nearest to its biased colour, and the cells are those after the biased colour's
+-- residual is passed on
+pub record Diffused (t : Ditherer) (cs : Candidates) (scale : List ℕ) (was : List ℤ) (i : ℕ) (color : NormalizedColor)
+    (c : Choice) (cells : List ℤ) : Type 0 where
+  pub choice : Takes cs (nearestColor cs (biasedColor color was i)) c
   pub passed :
-      cells
-      ≡ map sixteenths (sends zs (residualsOf (biasedColor color zs i .0) (normalizeColor scale (c .color) .0)) (kernelOf (t .kind)) (t .width) (t .height) i)
+      cells ≡ sends was (residualsOf (biasedColor color was i .0) (normalizeColor scale (c .color) .0)) (kernelOf (t .kind)) (t .width) (t .height) i
 
 -- the cells when pixel i's turn comes, under a diffusion kind
-unfoldable pub cellsBefore : Drawing → ℕ → List Float
-cellsBefore d i = map sixteenths (scatter (kernelOf (d .kind)) (pictureOf d (drawn d)) i)
+unfoldable pub cellsBefore : Drawing → ℕ → List ℤ
+cellsBefore d i = scatter (kernelOf (d .kind)) (pictureOf d (drawn d)) i
 
 -- what is remembered where no error is diffused: for an ordered kind pairs and shortlists, for Off the nearest
 abbrev pub RemembersBy : Bool → Candidates → ℕ → List ℕ → Type 0

@@ -3,17 +3,15 @@
 // `Ditherer` in src/dither.rs; the error cells are lent.
 use color::NormalizedColor;
 use color::ReducedColor;
-use lists::zero_floats;
+use lists::zero_i16s;
 use lookup::Choice;
 use remembered::MEMORY;
 ghost use mathlib.Core.Path.{_≡_};
 ghost use mathlib.Core.Bool.{true, false};
-ghost use mathlib.Core.List.{List};
 ghost use Prim.Native.Nat.{_+_, _*_, _/_, _%_, _<_};
-ghost use lib.IntN.{ℤ};
 ghost use lib.ListN.{length, set};
-ghost use Rattle.floats.specs.Cells.{Cells};
-ghost use Rattle.patterns.specs.Kinds.{isOrdered, isDiffusion};
+ghost use Rattle.patterns.specs.Kinds.{isOrdered, isDiffusion, kernelOf};
+ghost use Rattle.diffusion.specs.Sends.{Room};
 ghost use Rattle.color.specs.Color.{reducedAt};
 ghost use Rattle.color.specs.Tables.{normalizeColor};
 ghost use Rattle.color.specs.Oklab.{oklabAt};
@@ -210,13 +208,13 @@ impl Ditherer {
         i: usize,
         color: NormalizedColor,
         memory: &mut [u64; MEMORY],
-        cells: &mut [f32],
+        cells: &mut [i16],
     ) -> Choice
         requires { ⌜ Linear (now linear) × Choosable (now colors) (now scale) (now oklab) count × Inside self i × (isDiffusion (self .kind) ≡ true)
-            × (length (now cells) ≡ 3 * (self .width * self .height)) × ((zs : List ℤ) × Cells 4080 (now cells) zs)
+            × (length (now cells) ≡ 3 * (self .width * self .height)) × Room (kernelOf (self .kind)) (self .width) (self .height) i (now cells)
             × TableOf (nearestAlone (oklabAt (now oklab)) count) (now memory) ⌝ }
         ensures { λ c. ⌜ (let cs = scaled (now (colors .entry)) (now (scale .entry)) (now (oklab .entry)) count in
-            ((zs : List ℤ) → Cells 4080 (now (cells .entry)) zs → Diffused self cs (now (scale .entry)) zs i color c (now (cells .exit)))
+            Diffused self cs (now (scale .entry)) (now (cells .entry)) i color c (now (cells .exit))
             × TableOf (nearestAlone (oklabAt (now (oklab .entry))) count) (now (memory .exit))) ⌝ }
     {
         let biased = diffusion::biased_color(cells, i, color);
@@ -281,7 +279,7 @@ impl Ditherer {
         count: usize,
         i: usize,
         memory: &mut [u64; MEMORY],
-        cells: &mut [f32],
+        cells: &mut [i16],
     ) -> Choice
         requires { ⌜ (let l = lent (now reduction) (now scale) (now pixels) (now colors) (now oklab) count in
             Linear (now linear) × Ready self zero l × (isDiffusion (self .kind) ≡ true) × (i < self .width * self .height)
@@ -358,7 +356,7 @@ impl Ditherer {
         memory: &mut [u64; MEMORY],
         indices: &mut [u8],
         out: &mut [u8],
-        cells: &mut [f32],
+        cells: &mut [i16],
     )
         requires { ⌜ Linear (now linear) × Ready self zero (lent (now reduction) (now scale) (now pixels) (now colors) (now oklab) count)
             × (isDiffusion (self .kind) ≡ true) × (length (now out) ≡ 4 * (self .width * self .height))
@@ -368,7 +366,7 @@ impl Ditherer {
             (now (out .exit) ≡ reducedBytes d) × (now (cells .exit) ≡ cellsBefore d (self .width * self .height))
             × PositionsAfter d (now (indices .entry)) (now (indices .exit))) ⌝ }
     {
-        zero_floats(cells);
+        zero_i16s(cells);
         let size = self.width as usize * self.height as usize;
         let mut i = 0;
         while i < size {
@@ -405,7 +403,7 @@ impl Ditherer {
         count: usize,
         indices: &mut [u8],
         out: &mut [u8],
-        cells: &mut [f32],
+        cells: &mut [i16],
     )
         requires { ⌜ Linear (now linear) × Ready self zero (lent (now reduction) (now scale) (now pixels) (now colors) (now oklab) count)
             × (length (now out) ≡ 4 * (self .width * self .height))

@@ -23,7 +23,7 @@ use Rattle.patterns.specs.declared.Dither.the-variants.{Atkinson, FloydSteinber
 use Rattle.patterns.specs.Kernel.{Target}
 use Rattle.patterns.specs.Kinds.{Way, way, kernelIn, heldIn}
 use Rattle.diffusion.specs.Biased.{biasedOf}
-use Rattle.diffusion.specs.Diffusion.{Channel, residual, lossOf}
+use Rattle.diffusion.specs.Diffusion.{Channel, cell, residual, lossOf}
 use Rattle.diffusion.specs.Account.{excess, lost, sent, isOutside, toSkipped, dropped, held}
 
 -- what an example speaks of: a whole number, an f32, or a refusal
@@ -103,9 +103,9 @@ kept k h c i = residual k c i *ℤ pos h
 -- was held back, and of it each pixel's part
 abbrev pub accountBy : List Target → ℕ → Channel → List Value
 accountBy k h c =
-    whole (excess c) ∷ whole (lost k c) ∷ whole (toSkipped k c)
-    ∷ whole (dropped k c) ∷ whole (fell k c 0) ∷ whole (fell k c 1)
-    ∷ whole (held k h c) ∷ whole (kept k h c 0) ∷ whole (kept k h c 1)
+    whole (excess c) ∷ whole (lost c (cell k c)) ∷ whole (toSkipped k c (cell k c))
+    ∷ whole (dropped k c (cell k c)) ∷ whole (fell k c 0) ∷ whole (fell k c 1)
+    ∷ whole (held h c (cell k c)) ∷ whole (kept k h c 0) ∷ whole (kept k h c 1)
     ∷ []
 
 -- by the kernel of a kind, and what it holds back

@@ -95,8 +95,8 @@ fn loss_is(source: u8, cell: u32, biased: u8, taken: u32, given: u32) -> bool {
 }
 
 fn e6() -> bool {
-    let up = diffusion::biased(10, 0.5);
-    let clipped = diffusion::biased(250, 20.0);
+    let up = diffusion::biased(10, 8);
+    let clipped = diffusion::biased(250, 320);
     ((up == 11) & loss_is(10, 8, up, 0, 8))
         & ((clipped == 255) & loss_is(250, 320, clipped, 240, 0))
 }

@@ -25,17 +25,17 @@ const ATKINSON: u32 = 9;
 
 fn floyd_steinberg() -> Shares {
     Shares {
-        right: 7.0,
-        others: 9.0,
-        held: 0.0,
+        right: 7,
+        others: 9,
+        held: 0,
     }
 }
 
 fn atkinson() -> Shares {
     Shares {
-        right: 2.0,
-        others: 10.0,
-        held: 4.0,
+        right: 2,
+        others: 10,
+        held: 4,
     }
 }
 
@@ -51,7 +51,7 @@ fn pair_is(kind: u32, shares: Shares, alpha: u8, said: Account) -> bool {
     let pixels = [80u8, 80, 80, 255, 0, 0, 0, alpha];
     let mut indices = [7u8; 2];
     let mut out = [7u8; 8];
-    let mut cells = [7.5f32; 6];
+    let mut cells = [120i16; 6];
     let reply = quantize::quantize_pixels(
         3,
         kind,
@@ -75,13 +75,13 @@ fn pair_is(kind: u32, shares: Shares, alpha: u8, said: Account) -> bool {
 // 1280 = 0 + 0 + (720 + 560)
 pub fn e7() -> bool {
     let said = Account {
-        excess: 1280.0,
-        lost: 0.0,
-        skipped: 0.0,
-        first_dropped: 720.0,
-        second_dropped: 560.0,
-        first_held: 0.0,
-        second_held: 0.0,
+        excess: 1280,
+        lost: 0,
+        skipped: 0,
+        first_dropped: 720,
+        second_dropped: 560,
+        first_held: 0,
+        second_held: 0,
     };
     pair_is(FLOYD_STEINBERG, floyd_steinberg(), 255, said)
 }
@@ -89,13 +89,13 @@ pub fn e7() -> bool {
 // 1280 = 0 + 0 + (800 + 120) + (320 + 40)
 pub fn e8() -> bool {
     let said = Account {
-        excess: 1280.0,
-        lost: 0.0,
-        skipped: 0.0,
-        first_dropped: 800.0,
-        second_dropped: 120.0,
-        first_held: 320.0,
-        second_held: 40.0,
+        excess: 1280,
+        lost: 0,
+        skipped: 0,
+        first_dropped: 800,
+        second_dropped: 120,
+        first_held: 320,
+        second_held: 40,
     };
     pair_is(ATKINSON, atkinson(), 255, said)
 }
@@ -103,13 +103,13 @@ pub fn e8() -> bool {
 // 1280 = 0 + 560 + 720
 pub fn e9() -> bool {
     let said = Account {
-        excess: 1280.0,
-        lost: 0.0,
-        skipped: 560.0,
-        first_dropped: 720.0,
-        second_dropped: 0.0,
-        first_held: 0.0,
-        second_held: 0.0,
+        excess: 1280,
+        lost: 0,
+        skipped: 560,
+        first_dropped: 720,
+        second_dropped: 0,
+        first_held: 0,
+        second_held: 0,
     };
     pair_is(FLOYD_STEINBERG, floyd_steinberg(), 0, said)
 }
@@ -137,7 +137,7 @@ fn dithered(settings: Settings, pixels: &[u8]) -> Dithered {
     let mut places = [7u8; 24];
     let mut oklab = [7.5f32; 18];
     let mut out = [7u8; 24];
-    let mut cells = [0.0f32; 0];
+    let mut cells = [0i16; 0];
     dither::dither_to_mode(
         settings,
         &table,
@@ -213,7 +213,7 @@ fn number_for(palette: &[u8]) -> u8 {
     let pixel = [9u8, 9, 9, 255];
     let mut index = [7u8; 1];
     let mut out = [7u8; 4];
-    let mut cells = [0.0f32; 0];
+    let mut cells = [0i16; 0];
     match quantize::quantize_pixels(
         3,
         0,

@@ -6,6 +6,7 @@ use Prim.Native.Nat.{ℕ, zero, suc}
 use native.Mathlib.Omega.{arith}
 use borrow.Author.Tests.{ne-eqb, eqb-true}
 use lib.Dec.{eqb}
+use lib.IntN.{ℤ}
 use lib.Ieee.{Float}
 use lib.ListN.{length}
 use Rattle.replies.specs.Replies.{after}
@@ -43,7 +44,7 @@ candidates-by-case x was {r} h e =
 
 -- ---- `quantize_pixels`
 -- where the answer r is the case y
-pub quantized-by-case : (q : Commission) (indices₀ out₀ : List ℕ) (cells₀ : List Float) {r y : Quantization} {indices out : List ℕ} {cells : List Float}
+pub quantized-by-case : (q : Commission) (indices₀ out₀ : List ℕ) (cells₀ : List ℤ) {r y : Quantization} {indices out : List ℕ} {cells : List ℤ}
     → Quantized q indices₀ out₀ cells₀ r indices out cells → r ≡ y → (numberOf y, indices, out, cells) ≡ badgeQuantizePixels q indices₀ out₀ cells₀
 quantized-by-case q indices₀ out₀ cells₀ h e =
     (λ i. (numberOf (sym e i), h .index-buffer i, h .picture i, h .cell-buffer i))

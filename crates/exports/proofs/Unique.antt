@@ -1,6 +1,7 @@
 -- The promises of the C functions leave one result each: one answer, and one content of each pointer and buffer that is lent to be written. Assumes nothing.
 use mathlib.Core.List.{List}
 use Prim.Native.Nat.{ℕ}
+use lib.IntN.{ℤ}
 use lib.Ieee.{Float}
 use Rattle.replies.specs.Unique.{Unique}
 use Rattle.replies.proofs.UniqueLaws.{equal-only}
@@ -45,8 +46,8 @@ badge-pick-unique dark light ratio kind column row chosen = equal-only _
 pub badge-candidate-colors-in-unique : (asked : Asked) (count : ℕ) → Unique (λ (x : ℕ × List ℕ × List Float × ℕ). PromisedCandidateColorsIn asked count x)
 badge-candidate-colors-in-unique asked count = equal-only _
 
-pub badge-quantize-pixels-unique : (q : Commission) (indices out : List ℕ) (cells : List Float)
-    → Unique (λ (x : ℕ × List ℕ × List ℕ × List Float). PromisedQuantizePixels q indices out cells x)
+pub badge-quantize-pixels-unique : (q : Commission) (indices out : List ℕ) (cells : List ℤ)
+    → Unique (λ (x : ℕ × List ℕ × List ℕ × List ℤ). PromisedQuantizePixels q indices out cells x)
 badge-quantize-pixels-unique q indices out cells = equal-only _
 
 pub badge-dither-to-mode-unique : (q : mode.Commission) (was : mode.Buffers) (count tile : ℕ)

@@ -6,6 +6,7 @@ use Prim.Native.Nat.{ℕ}
 use mathlib.Core.Bool.{cond}
 use mathlib.Core.List.{List}
 use lib.Dec.{eqb}
+use lib.IntN.{ℤ}
 use lib.Ieee.{Float}
 use lib.ListN.{length}
 use Rattle.replies.specs.Replies.{firstReply, after}
@@ -35,12 +36,12 @@ abbrev pub PromisedCandidateColorsIn : Asked → ℕ → ℕ × List ℕ × List
 PromisedCandidateColorsIn x count left = left ≡ badgeCandidateColorsIn x count
 
 -- ---- `badge_quantize_pixels`: the number, the indices, the picture and the cells
-abbrev pub badgeQuantizePixels : Commission → (indices out : List ℕ) → List Float → ℕ × List ℕ × List ℕ × List Float
+abbrev pub badgeQuantizePixels : Commission → (indices out : List ℕ) → List ℤ → ℕ × List ℕ × List ℕ × List ℤ
 badgeQuantizePixels q indices out cells =
     let n = firstReply (quantize.replies q indices out cells) in
     (n, after n (indicesOf q) indices, after n (pixelsOf q) out, after n (cellsAfter (quantizing q) cells) cells)
 
-abbrev pub PromisedQuantizePixels : Commission → (indices out : List ℕ) → List Float → ℕ × List ℕ × List ℕ × List Float → Type 0
+abbrev pub PromisedQuantizePixels : Commission → (indices out : List ℕ) → List ℤ → ℕ × List ℕ × List ℕ × List ℤ → Type 0
 PromisedQuantizePixels q indices out cells left = left ≡ badgeQuantizePixels q indices out cells
 
 -- ---- `badge_dither_to_mode`: the number, the buffers, how many candidates there are, and the first tile over its limit

@@ -343,7 +343,7 @@ pub extern "C" fn badge_quantize_pixels(
     pixels: &[u8],
     indices: &mut [u8],
     out: &mut [u8],
-    cells: &mut [f32],
+    cells: &mut [i16],
 ) -> u32
     ensures { λ n. ⌜ (let q = commission shift kind width height (now (reduction .entry)) (now (scale .entry)) (now (palette .entry)) (now (pixels .entry)) in
         PromisedQuantizePixels q (now (indices .entry)) (now (out .entry)) (now (cells .entry))
@@ -400,7 +400,7 @@ pub extern "C" fn badge_dither_to_mode(
     places: &mut [u8],
     oklab: &mut [f32],
     out: &mut [u8],
-    cells: &mut [f32],
+    cells: &mut [i16],
     count: &mut u32,
     tile: &mut u32,
 ) -> u32

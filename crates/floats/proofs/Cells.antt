@@ -1,15 +1,15 @@
--- Buffers of cells: a read, a store, a send, and cells that are all 0. Assumes nothing.
+-- Buffers of f32 cells: a read, a store and a send. Assumes nothing.
 use mathlib.Core.Path.{_≡_, refl, ap, _∙_, subst}
 use mathlib.Core.List.{List, [], _∷_, map}
 use Prim.Native.Nat.{ℕ, zero, suc, _≤_, _<_}
 use native.Mathlib.Nat.{le-of-suc-le-suc, not-suc-le-zero}
 use lib.IntN.{ℤ, pos, natAbs, _+ℤ_, _*ℤ_}
-use lib.ListN.{length, getD, set, replicate, length-map}
-use lib.Ieee.{Float, nan, binary32, add, mul, ofBits}
+use lib.ListN.{length, getD, set, length-map}
+use lib.Ieee.{Float, nan, binary32, add, mul}
 use Rattle.floats.specs.Over.{sixteenths, wholef}
 use Rattle.floats.specs.Cells.{Cell}
 use Rattle.floats.specs.Cells.{Cells}
-use Rattle.floats.proofs.Sixteenths.{send, cell-zero}
+use Rattle.floats.proofs.Sixteenths.{send}
 
 read : (zs : List ℤ) (i : ℕ) → i < length zs → getD (map sixteenths zs) i nan ≡ sixteenths (getD zs i (pos 0))
 read [] i h = absurd (not-suc-le-zero h)
@@ -38,7 +38,3 @@ cells-send xs zs i y v r w h l p R q W L =
     ap (λ (x : Float). set xs i x) (send (getD xs i nan) y v (getD zs i (pos 0)) r w (cell-at 65536 xs zs i h l) p R q W L)
     ∙ ap (λ (ys : List Float). set ys i (sixteenths (getD zs i (pos 0) +ℤ r *ℤ pos w))) (h .is)
     ∙ store zs i (getD zs i (pos 0) +ℤ r *ℤ pos w)
-
-pub cells-zero : (n : ℕ) → replicate n (ofBits binary32 0) ≡ map sixteenths (replicate n (pos 0))
-cells-zero zero = refl
-cells-zero (suc n) = λ i. cell-zero i ∷ cells-zero n i

@@ -1,12 +1,12 @@
--- The cells of error diffusion: sixteenths. Each is `sixteenths n`, never -0; a send adds weight times residual; source + cell, times 16, is a whole number
+-- Sixteenths, as the original's error cells are: each is `sixteenths n`, never -0; a send adds weight times residual; sixteen times one is a whole number
 -- that casts to an i32. Assumes nothing.
 use mathlib.Core.Path.{_≡_, refl, sym, ap, _∙_, subst}
-use Prim.Native.Nat.{ℕ, zero, suc, _-_, _*_, _^_, _≤_, _<_}
+use Prim.Native.Nat.{ℕ, zero, suc, _*_, _^_, _≤_, _<_}
 use native.Mathlib.Nat.{mul-assoc, mul-comm, mul-pos, lt-of-lt-of-le, lt-of-le-of-lt, mul-le-mul, le-of-lt, lt-irrefl}
 use native.Mathlib.Omega.{arith}
-use mathlib.Core.Bool.{Bool, true, false, cond}
+use mathlib.Core.Bool.{true}
 use lib.IntN.{ℤ, pos, negsuc, negℤ, natAbs, _+ℤ_, _*ℤ_}
-use lib.Dec.{T, ltb, le→leb, lit<, lit≤}
+use lib.Dec.{T, le→leb, lit<, lit≤}
 use lib.Ieee.{Float, binary32, round, add, mul, ofInt, ofBits, inSigned, toSigned, inFloat}
 use lib.Ieee.Back.{positive-back, negative-back}
 use lib.Ieee.Scale.{round-same}
@@ -44,36 +44,11 @@ sixteenths-add n m N M = add-over 4 n m (lit≤ tt) N M
 pub sixteenths-weight : (r : ℤ) (w : ℕ) → natAbs r < 2 ^ 24 → w < 2 ^ 24 → 0 < w → mul binary32 (wholef r) (sixteenths (pos w)) ≡ sixteenths (r *ℤ pos w)
 sixteenths-weight r w R W P = mul-over 0 4 r w (lit≤ tt) (lit≤ tt) R W P
 
--- the weights' literals: 7 / 16, 5 / 16, 3 / 16, 1 / 16, and 1 / 8 as 2 / 16
-pub weight-7 : ofBits binary32 0x3ee0_0000 ≡ sixteenths (pos 7)
-unfolding ofBits over round
-weight-7 = refl
-
-pub weight-5 : ofBits binary32 0x3ea0_0000 ≡ sixteenths (pos 5)
-unfolding ofBits over round
-weight-5 = refl
-
-pub weight-3 : ofBits binary32 0x3e40_0000 ≡ sixteenths (pos 3)
-unfolding ofBits over round
-weight-3 = refl
-
-pub weight-1 : ofBits binary32 0x3d80_0000 ≡ sixteenths (pos 1)
-unfolding ofBits over round
-weight-1 = refl
-
-pub weight-2 : ofBits binary32 0x3e00_0000 ≡ sixteenths (pos 2)
-unfolding ofBits over round
-weight-2 = refl
-
-pub cell-zero : ofBits binary32 0 ≡ sixteenths (pos 0)
-unfolding ofBits over round
-cell-zero = refl
-
+-- ---- times 16
 pub sixteen : ofBits binary32 0x4180_0000 ≡ wholef (pos 16)
 unfolding ofBits over round
 sixteen = refl
 
--- ---- times 16
 pub sixteenths-by-16 : (z : ℤ) → natAbs z < 2 ^ 24 → mul binary32 (sixteenths z) (wholef (pos 16)) ≡ wholef z
 sixteenths-by-16 z Z = mul-over 4 0 z 16 (lit≤ tt) (lit≤ tt) Z (lit< tt) (lit< tt) ∙ over-scale 1 z 16 (lit< tt) (lit< tt)
 
@@ -84,35 +59,6 @@ whole-cast z Z = subst (λ (x : Float). T (inSigned binary32 31 x) × (toSigned 
     back : (z : ℤ) → natAbs z < 2 ^ 24 → T (inSigned binary32 31 (ofInt binary32 z)) × (toSigned 31 (ofInt binary32 z) ≡ z)
     back (pos n) h = positive-back binary32 31 n (unfold inFloat in le→leb n (2 ^ 24) (le-of-lt h)) (lt-of-lt-of-le h (lit≤ tt))
     back (negsuc n) h = negative-back binary32 31 n (unfold inFloat in le→leb (suc n) (2 ^ 24) (le-of-lt h)) (le-of-lt (lt-of-lt-of-le h (lit≤ tt)))
-
--- ---- a byte plus a cell, times 16
-sum-small : (b : ℕ) (n : ℤ) → b < 256 → natAbs n < 2 ^ 20 → natAbs (pos (b * 16) +ℤ n) < 2 ^ 24
-sum-small b (pos n) B N = omega arith
-sum-small b (negsuc n) B N = go (ltb (b * 16) (suc n))
-  where
-    go : (t : Bool) → natAbs (cond t (negsuc (suc n - suc (b * 16))) (pos (b * 16 - suc n))) < 2 ^ 24
-    go true = omega arith
-    go false = omega arith
-
-byte-small : (b : ℕ) → b < 256 → b * 16 < 2 ^ 24
-byte-small b B = omega arith
-
-pub byte-plus-cell : (b : ℕ) (n : ℤ) → b < 256 → natAbs n < 2 ^ 20
-    → mul binary32 (add binary32 (ofInt binary32 (pos b)) (sixteenths n)) (wholef (pos 16)) ≡ wholef (pos (b * 16) +ℤ n)
-byte-plus-cell b n B N =
-    ap (λ (x : Float). mul binary32 (add binary32 x (sixteenths n)) (wholef (pos 16))) (ofInt-over (pos b) ∙ whole-sixteenths (pos b))
-    ∙ ap (λ (x : Float). mul binary32 x (wholef (pos 16))) (sixteenths-add (pos (b * 16)) n (byte-small b B) (lt-of-lt-of-le N (lit≤ tt)))
-    ∙ sixteenths-by-16 (pos (b * 16) +ℤ n) (sum-small b n B N)
-
--- the same of a float that is a cell, with 16.0 as MIR has it, and its cast to an i32
-pub cell-cast : (b : ℕ) (x : Float) (n : ℤ) → b < 256 → Cell 4080 x n
-    → T (inSigned binary32 31 (mul binary32 (add binary32 (ofInt binary32 (pos b)) x) (ofBits binary32 0x4180_0000)))
-    × (toSigned 31 (mul binary32 (add binary32 (ofInt binary32 (pos b)) x) (ofBits binary32 0x4180_0000)) ≡ pos (b * 16) +ℤ n)
-cell-cast b x n B h =
-    let N : natAbs n < 2 ^ 20 = omega (arith, h .small) in
-    subst (λ (v : Float). T (inSigned binary32 31 v) × (toSigned 31 v ≡ pos (b * 16) +ℤ n))
-    (sym ((λ i. mul binary32 (add binary32 (ofInt binary32 (pos b)) (h .is i)) (sixteen i)) ∙ byte-plus-cell b n B N))
-    (whole-cast (pos (b * 16) +ℤ n) (sum-small b n B N))
 
 cell-small : (n : ℤ) → natAbs n ≤ 65536 → natAbs n < 2 ^ 24
 cell-small n h = omega arith
@@ -131,11 +77,3 @@ send x y v n r w h p R q W L =
     ∙ ap (λ (z : Float). add binary32 (sixteenths n) z) (sixteenths-weight r w (residual-small r R) (weight-small w L) W)
     ∙ sixteenths-add n (r *ℤ pos w) (cell-small n (h .small))
     (lt-of-le-of-lt (subst (λ (k : ℕ). k ≤ 255 * 16) (sym (scaled r w W .1)) (mul-le-mul R L)) (lit< tt))
-
-pub cell-range : (b : ℕ) (n : ℤ) → b < 256 → natAbs n ≤ 4080 → natAbs (pos (b * 16) +ℤ n) < 1000000
-cell-range b (pos n) B N = omega arith
-cell-range b (negsuc n) B N = go (ltb (b * 16) (suc n))
-  where
-    go : (t : Bool) → natAbs (cond t (negsuc (suc n - suc (b * 16))) (pos (b * 16 - suc n))) < 1000000
-    go true = omega arith
-    go false = omega arith

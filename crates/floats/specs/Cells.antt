@@ -1,4 +1,4 @@
--- Error cells: an f32 that is a number of sixteenths, and a buffer of them. Definitions only.
+-- The original's error cells: an f32 that is a number of sixteenths, and a buffer of them. Definitions only.
 -- Written from document 01: cells "are exact sixteenths within ±255".
 use Prim.Native.Nat.{ℕ, _≤_, _<_}
 use mathlib.Core.Path.{_≡_}

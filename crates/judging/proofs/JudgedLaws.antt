@@ -61,7 +61,7 @@ module _ (shown : ℕ → Bool) (color : ℕ → ReducedColor) (w h tw th : ℕ)
 -- two pictures of which the same pixels are not transparent, with the same colours
 module _ {shown shown′ : ℕ → Bool} {color color′ : ℕ → ReducedColor} (w h tw th : ℕ) (alike : (i : ℕ) → i < w * h → shown i ≡ shown′ i) (colors : (i : ℕ)
     → i < w * h → color i ≡ color′ i) where
-  over-same : (limit t : ℕ) → isOver shown color w h tw th limit t ≡ isOver shown′ color′ w h tw th limit t
+  pub over-same : (limit t : ℕ) → isOver shown color w h tw th limit t ≡ isOver shown′ color′ w h tw th limit t
   unfolding isOver colorsIn countsIn
   over-same limit t =
       ap (λ (cs : List ReducedColor). ltb limit (length cs))

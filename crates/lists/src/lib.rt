@@ -2,7 +2,7 @@
 // ask; the definitions and laws on lists that every picture needs stand in specs/ and proofs/.
 ghost use mathlib.Core.Path.{_≡_};
 ghost use lib.ListN.{length, replicate};
-ghost use lib.Ieee.{ofBits, binary32};
+ghost use lib.IntN.{pos};
 
 // Sets every byte to 0.
 pub fn zero_bytes(s: &mut [u8])
@@ -15,13 +15,13 @@ pub fn zero_bytes(s: &mut [u8])
     }
 }
 
-// Sets every float to +0.0.
-pub fn zero_floats(s: &mut [f32])
-    ensures { λ _. ⌜ now (s .exit) ≡ replicate (length (now (s .entry))) (ofBits binary32 0) ⌝ }
+// Sets every signed 16-bit number to 0.
+pub fn zero_i16s(numbers: &mut [i16])
+    ensures { λ _. ⌜ now (numbers .exit) ≡ replicate (length (now (numbers .entry))) (pos 0) ⌝ }
 {
     let mut i: usize = 0;
-    while i < s.len() {
-        s[i] = 0.0;
+    while i < numbers.len() {
+        numbers[i] = 0;
         i += 1;
     }
 }

@@ -1,11 +1,11 @@
--- The kernels of the table: of every kind's kernel the targets come later in the scan, and it passes on no more than there is; what a diffusion kind
+-- The kernels of the table: of every kind's kernel the targets come later in the scan and have weights, and it passes on no more than there is; what a diffusion kind
 -- passes on and holds back are all sixteen sixteenths. Assumes nothing.
 use mathlib.Core.Path.{_≡_, refl, ap, subst}
 use mathlib.Core.Bool.{Bool, true, not, _||_}
 use Prim.Native.Nat.{ℕ, _+_, _≤_}
 use lib.Dec.{T, eqb, leb, leb→le, eqb→eq}
 use Rattle.patterns.specs.declared.Kind.{Kind}
-use Rattle.patterns.specs.Kernel.{total, positive, comesLater, later}
+use Rattle.patterns.specs.Kernel.{total, positive, comesLater, later, weighted}
 use Rattle.patterns.specs.Kinds.{kindOf, wayIn, wayOf, hasKernel, kernelIn, heldIn, isDiffusion, kernelOf, heldOf}
 use Rattle.patterns.proofs.Numbers.{of-all}
 
@@ -17,6 +17,10 @@ kernel-in k r e = ap (λ (v : Kind). kernelIn (wayIn v)) e
 pub kernel-later : (kind : ℕ) → T (later (kernelOf kind))
 unfolding kernelOf wayOf kindOf later comesLater positive
 kernel-later kind = of-all (λ w. later (kernelIn w)) refl refl kind
+
+pub kernel-weighted : (kind : ℕ) → T (weighted (kernelOf kind))
+unfolding kernelOf wayOf kindOf weighted
+kernel-weighted kind = of-all (λ w. weighted (kernelIn w)) refl refl kind
 
 pub kernel-total : (kind : ℕ) → total (kernelOf kind) ≤ 16
 unfolding kernelOf wayOf kindOf total

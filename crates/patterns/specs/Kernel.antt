@@ -1,14 +1,12 @@
 -- Kernels of error diffusion, and where a pixel's sends arrive. Definitions only.
 -- Written from document 01, "Diffusion runs row by row, left to right": which pixels get how many sixteenths, in the source's order of
 -- targets, and "Targets outside the picture are dropped".
-use Prim.Native.Nat.{ℕ, _+_, _*_, _/_, _%_, _≤_}
+use Prim.Native.Nat.{ℕ, _+_, _*_, _/_, _%_}
 use mathlib.Core.Path.{_≡_}
 use mathlib.Core.Bool.{Bool, true, false, cond, _&&_, _||_}
 use mathlib.Core.List.{List, [], _∷_, map}
 use lib.Dec.{T, ltb, leb}
 use lib.IntN.{ℤ, pos, negsuc, natAbs, _+ℤ_}
-use lib.Ieee.{Float}
-use Rattle.floats.specs.Over.{sixteenths}
 
 -- a target lies dx columns to the right and dy rows down, and gets weight sixteenths of the residual
 pub record Target : Type 0 where
@@ -68,19 +66,23 @@ place w h (negsuc x) y = outside
 unfoldable pub landing : ℕ → ℕ → ℕ → Target → Place
 landing w h i t = place w h (pos (i % w) +ℤ t .dx) (i / w + t .dy)
 
--- a target at most 16 columns and rows away, with a weight
+-- a target at most 16 columns and rows away
 abbrev pub near : Target → Bool
-near t = leb (natAbs (t .dx)) 16 && (leb (t .dy) 16 && ltb 0 (t .weight))
+near t = leb (natAbs (t .dx)) 16 && leb (t .dy) 16
 
 -- each target of the kernel is
 unfoldable pub allNear : List Target → Bool
 allNear [] = true
 allNear (t ∷ k) = near t && allNear k
 
--- the arrays hold a kernel's columns, rows and weights, and the kernel passes on no more than there is
-pub record Arrays (k : List Target) (dx : List ℤ) (dy : List ℕ) (ratio : List Float) : Type 0 where
+-- each target of the kernel has a weight
+unfoldable pub weighted : List Target → Bool
+weighted [] = true
+weighted (t ∷ k) = ltb 0 (t .weight) && weighted k
+
+-- the arrays hold a kernel's columns, rows and weights, and its targets are near
+pub record Arrays (k : List Target) (dx : List ℤ) (dy weight : List ℕ) : Type 0 where
   pub columns : dx ≡ map (λ t. t .dx) k
   pub rows : dy ≡ map (λ t. t .dy) k
-  pub weights : ratio ≡ map (λ t. sixteenths (pos (t .weight))) k
+  pub weights : weight ≡ map (λ t. t .weight) k
   pub close : T (allNear k)
-  pub whole : total k ≤ 16

@@ -193,58 +193,52 @@ pub fn threshold_at(kind: u32, x: u32, y: u32) -> f32
     }
 }
 
-// ---- kernels of error diffusion: for each target how many columns to the right, how many rows down, and the factor
+// ---- kernels of error diffusion: for each target how many columns to the right, how many rows down, and the weight in
+// sixteenths, which is sixteen times the source's factor
 
 const ATKINSON_DX: [i32; 6] = [1, 2, -1, 0, 1, 0];
 
 const ATKINSON_DY: [u32; 6] = [0, 0, 1, 1, 1, 2];
 
-const ATKINSON_RATIO: [f32; 6] = [
-    1.0 / 8.0,
-    1.0 / 8.0,
-    1.0 / 8.0,
-    1.0 / 8.0,
-    1.0 / 8.0,
-    1.0 / 8.0,
-];
+const ATKINSON_WEIGHT: [u8; 6] = [2, 2, 2, 2, 2, 2];
 
 const FLOYD_STEINBERG_DX: [i32; 4] = [1, -1, 0, 1];
 
 const FLOYD_STEINBERG_DY: [u32; 4] = [0, 1, 1, 1];
 
-const FLOYD_STEINBERG_RATIO: [f32; 4] = [7.0 / 16.0, 3.0 / 16.0, 5.0 / 16.0, 1.0 / 16.0];
+const FLOYD_STEINBERG_WEIGHT: [u8; 4] = [7, 3, 5, 1];
 
 // A kernel's three arrays, side by side. Their lengths differ, so each kernel has a type.
 pub struct AtkinsonKernel {
     pub dx: [i32; 6],
     pub dy: [u32; 6],
-    pub ratio: [f32; 6],
+    pub weight: [u8; 6],
 }
 
 pub struct FloydSteinbergKernel {
     pub dx: [i32; 4],
     pub dy: [u32; 4],
-    pub ratio: [f32; 4],
+    pub weight: [u8; 4],
 }
 
 // ATKINSON_KERNEL of the source.
 pub fn atkinson_kernel() -> AtkinsonKernel
-    ensures { λ r. ⌜ Arrays atkinson (r .dx) (r .dy) (r .ratio) ⌝ }
+    ensures { λ r. ⌜ Arrays atkinson (r .dx) (r .dy) (r .weight) ⌝ }
 {
     AtkinsonKernel {
         dx: ATKINSON_DX,
         dy: ATKINSON_DY,
-        ratio: ATKINSON_RATIO,
+        weight: ATKINSON_WEIGHT,
     }
 }
 
 // FLOYD_STEINBERG_KERNEL of the source.
 pub fn floyd_steinberg_kernel() -> FloydSteinbergKernel
-    ensures { λ r. ⌜ Arrays floydSteinberg (r .dx) (r .dy) (r .ratio) ⌝ }
+    ensures { λ r. ⌜ Arrays floydSteinberg (r .dx) (r .dy) (r .weight) ⌝ }
 {
     FloydSteinbergKernel {
         dx: FLOYD_STEINBERG_DX,
         dy: FLOYD_STEINBERG_DY,
-        ratio: FLOYD_STEINBERG_RATIO,
+        weight: FLOYD_STEINBERG_WEIGHT,
     }
 }

@@ -3,6 +3,7 @@ use dither::Dithered;
 use dither::Settings;
 use drawing::ColorZero;
 use recorded::ANY;
+use recorded::are_cells;
 use recorded::are_floats;
 use recorded::bytes_into;
 use recorded::floats;
@@ -46,10 +47,10 @@ fn lend(
     places: &mut [u8],
     oklab: &mut [f32],
     out: &mut [u8],
-    cells: &mut [f32],
+    cells: &mut [i16],
 ) -> bool {
     (bytes_into(room, 14, places) & floats(room, 15, oklab))
-        & (bytes_into(room, 16, out) & floats(room, 17, cells))
+        & (bytes_into(room, 16, out) & recorded::cells(room, 17, cells))
 }
 
 fn call(
@@ -57,7 +58,7 @@ fn call(
     places: &mut [u8],
     oklab: &mut [f32],
     out: &mut [u8],
-    cells: &mut [f32],
+    cells: &mut [i16],
 ) -> Dithered {
     let settings = settings_of(room);
     let reduction = part(room, 0);
@@ -89,9 +90,9 @@ fn is_answer(room: &[u8], answer: Dithered) -> bool {
 }
 
 // Whether the buffers are the recorded ones.
-fn are_left(room: &[u8], places: &[u8], oklab: &[f32], out: &[u8], cells: &[f32]) -> bool {
+fn are_left(room: &[u8], places: &[u8], oklab: &[f32], out: &[u8], cells: &[i16]) -> bool {
     (check::same(part(room, 21), places) & are_floats(room, 22, oklab))
-        & (check::same(part(room, 23), out) & are_floats(room, 24, cells))
+        & (check::same(part(room, 23), out) & are_cells(room, 24, cells))
 }
 
 fn dithered(
@@ -99,7 +100,7 @@ fn dithered(
     places: &mut [u8],
     oklab: &mut [f32],
     out: &mut [u8],
-    cells: &mut [f32],
+    cells: &mut [i16],
 ) -> bool {
     if !lend(room, places, oklab, out, cells) {
         return false;
@@ -150,11 +151,11 @@ pub fn dither_to_mode(room: &[u8]) -> bool {
     let mut places = [0u8; 1280];
     let mut oklab = [0.0f32; 960];
     let mut out = [0u8; 1280];
-    let mut cells = [0.0f32; 960];
+    let mut cells = [0i16; 960];
     let n = up_to(part(room, 14).len(), 1280);
     let m = up_to(part(room, 15).len() / 4, 960);
     let k = up_to(part(room, 16).len(), 1280);
-    let l = up_to(part(room, 17).len() / 4, 960);
+    let l = up_to(part(room, 17).len() / 2, 960);
     dithered(
         room,
         &mut places[0..n],

@@ -1,9 +1,8 @@
 // `quantize_pixels`: a case lends the recorded indices, pixels and cells, cut to their length, and compares them afterwards.
 use quantize::Quantization;
 use recorded::ANY;
-use recorded::are_floats;
+use recorded::are_cells;
 use recorded::bytes_into;
-use recorded::floats;
 use recorded::is_byte;
 use recorded::part;
 use recorded::shaped;
@@ -11,8 +10,8 @@ use recorded::up_to;
 use recorded::word;
 
 // The recorded contents, before the call.
-fn lend(room: &[u8], indices: &mut [u8], out: &mut [u8], cells: &mut [f32]) -> bool {
-    bytes_into(room, 8, indices) & (bytes_into(room, 9, out) & floats(room, 10, cells))
+fn lend(room: &[u8], indices: &mut [u8], out: &mut [u8], cells: &mut [i16]) -> bool {
+    bytes_into(room, 8, indices) & (bytes_into(room, 9, out) & recorded::cells(room, 10, cells))
 }
 
 fn number_of(reply: Quantization) -> u8 {
@@ -22,7 +21,7 @@ fn number_of(reply: Quantization) -> u8 {
     }
 }
 
-fn call(room: &[u8], indices: &mut [u8], out: &mut [u8], cells: &mut [f32]) -> u8 {
+fn call(room: &[u8], indices: &mut [u8], out: &mut [u8], cells: &mut [i16]) -> u8 {
     let shift = word(room, 2);
     let kind = word(room, 3);
     let width = word(room, 4);
@@ -47,13 +46,13 @@ fn call(room: &[u8], indices: &mut [u8], out: &mut [u8], cells: &mut [f32]) -> u
 }
 
 // Whether the answer and the buffers are the recorded ones.
-fn are_recorded(room: &[u8], number: u8, indices: &[u8], out: &[u8], cells: &[f32]) -> bool {
+fn are_recorded(room: &[u8], number: u8, indices: &[u8], out: &[u8], cells: &[i16]) -> bool {
     is_byte(room, 11, number)
         & (check::same(part(room, 12), indices)
-            & (check::same(part(room, 13), out) & are_floats(room, 14, cells)))
+            & (check::same(part(room, 13), out) & are_cells(room, 14, cells)))
 }
 
-fn quantized(room: &[u8], indices: &mut [u8], out: &mut [u8], cells: &mut [f32]) -> bool {
+fn quantized(room: &[u8], indices: &mut [u8], out: &mut [u8], cells: &mut [i16]) -> bool {
     if !lend(room, indices, out, cells) {
         return false;
     }
@@ -87,9 +86,9 @@ pub fn quantize_pixels(room: &[u8]) -> bool {
     }
     let mut indices = [0u8; 320];
     let mut out = [0u8; 1280];
-    let mut cells = [0.0f32; 960];
+    let mut cells = [0i16; 960];
     let n = up_to(part(room, 8).len(), 320);
     let m = up_to(part(room, 9).len(), 1280);
-    let k = up_to(part(room, 10).len() / 4, 960);
+    let k = up_to(part(room, 10).len() / 2, 960);
     quantized(room, &mut indices[0..n], &mut out[0..m], &mut cells[0..k])
 }

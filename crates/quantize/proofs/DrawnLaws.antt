@@ -6,6 +6,7 @@ use mathlib.Core.List.{List, [], _∷_}
 use Prim.Native.Nat.{ℕ, _*_, _<_}
 use native.Mathlib.Omega.{arith}
 use lib.ListN.{length}
+use lib.IntN.{ℤ}
 use lib.Ieee.{Float}
 use Rattle.lists.proofs.GatherLaws.{gather-same}
 use Rattle.color.specs.declared.ReducedColor.{ReducedColor}
@@ -55,7 +56,7 @@ module _ (q : Commission) where
       go true k = refl
       go false k = refl
 
-module _ (q : Commission) (indices out : List ℕ) (cells : List Float) (f : Fitting q (lengthsOf q indices out cells))
+module _ (q : Commission) (indices out : List ℕ) (cells : List ℤ) (f : Fitting q (lengthsOf q indices out cells))
     (ranged : RangedList (paletteOklab q) (entries q))
   where
     pub ready : (width : ℕ) (oklab : List Float) → oklab ≡ paletteOklab q → Ready (dithererOf q width) Absent (lentOf q oklab)

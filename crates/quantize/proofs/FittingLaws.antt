@@ -7,7 +7,7 @@ use Prim.Native.Nat.{ℕ, _*_, _/_, _%_, _<_}
 use native.Mathlib.Omega.{arith}
 use borrow.Author.Tests.{ltb-false, eqb-false, not-false}
 use lib.Dec.{eqb}
-use lib.Ieee.{Float}
+use lib.IntN.{ℤ}
 use Rattle.lists.proofs.Bools.{or-split, equals}
 use Rattle.replies.specs.Replies.{FirstReply, firstReply}
 use Rattle.replies.proofs.ReplyLaws.{reply-none}
@@ -21,7 +21,7 @@ use Rattle.quantize.specs.declared.Lengths.{Lengths}
 use Rattle.quantize.specs.Quantize.{Commission, size, lengthsWrong, entriesWrong, checks, replies, numberOf, answerOf, Quantized}
 use Rattle.quantize.specs.Steps.{Fitting}
 
-pub number-is : {q : Commission} {indices₀ out₀ : List ℕ} {cells₀ : List Float} {r : Quantization} {indices out : List ℕ} {cells : List Float}
+pub number-is : {q : Commission} {indices₀ out₀ : List ℕ} {cells₀ : List ℤ} {r : Quantization} {indices out : List ℕ} {cells : List ℤ}
     → Quantized q indices₀ out₀ cells₀ r indices out cells → FirstReply (replies q indices₀ out₀ cells₀) (numberOf r)
 number-is p = answers-first _ _ _ tt (p .answer)
 

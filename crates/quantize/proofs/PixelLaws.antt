@@ -7,7 +7,7 @@ use Prim.Native.Nat.{ℕ, _*_, _<_}
 use native.Mathlib.Nat.{one-mul, add-zero}
 use lib.Dec.{lit<}
 use lib.ListN.{getD}
-use lib.Ieee.{Float}
+use lib.IntN.{ℤ}
 use Rattle.replies.specs.Replies.{after}
 use Rattle.lists.proofs.GatherLaws.{gather-at}
 use Rattle.color.specs.Color.{normalizedAt, reducedAt, transparentNormalized}
@@ -25,7 +25,7 @@ use Rattle.quantize.proofs.IndexLaws.{index-is}
 use Rattle.quantize.proofs.DrawnLaws.{chosen-among}
 
 -- ---- what stands at pixel i
-module _ {q : Commission} {indices₀ out₀ : List ℕ} {cells₀ : List Float} {r : Quantization} {indices out : List ℕ} {cells : List Float}
+module _ {q : Commission} {indices₀ out₀ : List ℕ} {cells₀ : List ℤ} {r : Quantization} {indices out : List ℕ} {cells : List ℤ}
     (p : Quantized q indices₀ out₀ cells₀ r indices out cells) (accepted : r ≡ Accepted) (i : ℕ) (h : i < size q) where
   index-list : indices ≡ indicesOf q
   index-list = p .index-buffer ∙ ap (λ (x : Quantization). after (numberOf x) (indicesOf q) indices₀) accepted

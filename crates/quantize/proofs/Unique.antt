@@ -2,7 +2,7 @@
 use mathlib.Core.Path.{_≡_, sym, _∙_, ap}
 use mathlib.Core.List.{List}
 use Prim.Native.Nat.{ℕ}
-use lib.Ieee.{Float}
+use lib.IntN.{ℤ}
 use Rattle.replies.specs.Replies.{after}
 use Rattle.replies.specs.Unique.{Unique}
 use Rattle.replies.proofs.AnswerLaws.{answers-only}
@@ -12,9 +12,9 @@ use Rattle.quantize.specs.Quantize.{Commission, quantizing, indicesOf, p
 
 -- an answer, and what the three buffers hold
 abbrev pub Result : Type 0
-Result = Quantization × List ℕ × List ℕ × List Float
+Result = Quantization × List ℕ × List ℕ × List ℤ
 
-module _ (q : Commission) (indices₀ out₀ : List ℕ) (cells₀ : List Float) where
+module _ (q : Commission) (indices₀ out₀ : List ℕ) (cells₀ : List ℤ) where
   pub quantize-pixels-unique : Unique (λ (x : Result). Quantized q indices₀ out₀ cells₀ (x .0) (x .1) (x .2) (x .3))
   quantize-pixels-unique x y a b =
       let e : x .0 ≡ y .0 = answers-only numberOf (replies q indices₀ out₀ cells₀) answerOf (x .0) (y .0) (a .answer) (b .answer) in

@@ -1,12 +1,14 @@
 -- What `quantize_pixels` answers, and what its three lent buffers hold afterwards. Definitions only.
 -- Written from document 01, "Choosing colours" ("A palette index is the first entry equal to the chosen reduced colour. Transparent pixels get
 -- index 0 and `TRANSPARENT`", "max is the palette's length in `quantize_pixels`", "`quantize_pixels` uses origin 0") and "Bounds and replies"; and
--- from document 02, Ask 9: "15 for kinds 5 and 6 in every call that takes a kind, directly after 1".
+-- from document 02, Ask 9: "15 for kinds 5 and 6 in every call that takes a kind, directly after 1"; Ask 11: "signed 16-bit counts of sixteenths, three
+-- a pixel", "3 measures the new length".
 use Prim.Native.Nat.{ℕ, _*_, _/_, _%_, _<_}
 use mathlib.Core.Path.{_≡_}
 use mathlib.Core.Bool.{Bool, cond, not, _||_}
 use mathlib.Core.List.{List, [], _∷_}
 use lib.Dec.{eqb, ltb}
+use lib.IntN.{ℤ}
 use lib.ListN.{length}
 use lib.Ieee.{Float}
 use Rattle.lists.specs.Gather.{gather}
@@ -100,8 +102,8 @@ pixelsOf q = finishedPicture (quantizing q)
 
 -- ---- refusals
 
--- how long each lent buffer is
-abbrev pub lengthsOf : Commission → (indices out : List ℕ) → List Float → Lengths
+-- how long each lent buffer is, whatever the cells are
+abbrev pub lengthsOf : {C : Type 0} → Commission → (indices out : List ℕ) → List C → Lengths
 lengthsOf q indices out cells = record {
   reduction = length (q .reduction);
   scale = length (q .scale);
@@ -132,7 +134,7 @@ checks shift kind width height s =
     ∷ 4 if entriesWrong (s .palette / 4)
     ∷ []
 
-abbrev pub replies : Commission → (indices out : List ℕ) → List Float → List Reply
+abbrev pub replies : {C : Type 0} → Commission → (indices out : List ℕ) → List C → List Reply
 replies q indices out cells = checks (q .shift) (q .kind) (q .width) (q .height) (lengthsOf q indices out cells)
 
 -- ---- the promise
@@ -147,7 +149,7 @@ abbrev pub answerOf : ℕ → Quantization
 answerOf = valueOr Accepted Refused
 
 -- what `quantize_pixels` answers and leaves: r, and the three buffers after its number, which held `indices₀`, `out₀` and `cells₀`
-pub record Quantized (q : Commission) (indices₀ out₀ : List ℕ) (cells₀ : List Float) (r : Quantization) (indices out : List ℕ) (cells : List Float)
+pub record Quantized (q : Commission) (indices₀ out₀ : List ℕ) (cells₀ : List ℤ) (r : Quantization) (indices out : List ℕ) (cells : List ℤ)
     : Type 0 where
   pub answer : Answers numberOf (replies q indices₀ out₀ cells₀) answerOf r
   pub index-buffer : indices ≡ after (numberOf r) (indicesOf q) indices₀

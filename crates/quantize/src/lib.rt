@@ -101,7 +101,7 @@ fn quantize(
     room: &mut [f32],
     indices: &mut [u8],
     out: &mut [u8],
-    cells: &mut [f32],
+    cells: &mut [i16],
 )
     requires { ⌜ (let q = commission shift kind width height (now reduction) (now scale) (now palette) (now pixels) in
         Fitting q (lengthsOf q (now indices) (now out) (now cells)) × (length (now room) ≡ 768)) ⌝ }
@@ -150,7 +150,7 @@ pub fn quantize_pixels(
     pixels: &[u8],
     indices: &mut [u8],
     out: &mut [u8],
-    cells: &mut [f32],
+    cells: &mut [i16],
 ) -> Quantization
     ensures { λ r. ⌜ Quantized (commission shift kind width height (now (reduction .entry)) (now (scale .entry)) (now (palette .entry)) (now (pixels .entry)))
         (now (indices .entry)) (now (out .entry)) (now (cells .entry)) r (now (indices .exit)) (now (out .exit)) (now (cells .exit)) ⌝ }

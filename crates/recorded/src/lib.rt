@@ -1,4 +1,5 @@
-// The recorded list as text: the tokens of a line, the numbers, floats and colours that they hold, and comparisons with them.
+// The recorded list as text: the tokens of a line, the numbers, floats, cells and colours that they hold, and comparisons
+// with them.
 // Nothing here trusts the list: what lies outside a slice is an empty part, or 0.
 //
 // The tokens of a line are read into a room: byte 62 says how many there are, or 255 where the line is malformed; the two
@@ -318,6 +319,62 @@ pub fn bytes_into(room: &[u8], k: usize, out: &mut [u8]) -> bool {
 pub fn floats(room: &[u8], k: usize, out: &mut [f32]) -> bool {
     fill(out, part(room, k));
     are_floats(room, k, out)
+}
+
+// ---- cells: signed numbers of two bytes each, in two's complement
+
+// The cell with these bits, which are all a cell's. The upper half are the numbers below 0: 65535 is -1, and `!n` is -1 - n.
+fn cell_of(bits: u16) -> i16 {
+    if bits < 32768 {
+        return bits as i16;
+    }
+    !((65535 - bits) as i16)
+}
+
+// Cell i.
+fn cell_at(p: &[u8], i: usize) -> i16 {
+    if i < p.len() / 2 {
+        return cell_of((number_of(piece(p, 2 * i, 2 * i + 2)) % 65536) as u16);
+    }
+    0
+}
+
+fn fill_cells(out: &mut [i16], p: &[u8]) {
+    let mut i = 0;
+    while i < out.len() {
+        out[i] = cell_at(p, i);
+        i += 1;
+    }
+}
+
+// Whether a part has just so many cells.
+fn has_cells(p: &[u8], n: usize) -> bool {
+    (p.len() % 2 == 0) & (p.len() / 2 == n)
+}
+
+fn writes_cells(p: &[u8], cells: &[i16]) -> bool {
+    if !has_cells(p, cells.len()) {
+        return false;
+    }
+    let mut i = 0;
+    while i < cells.len() {
+        if cell_at(p, i) != cells[i] {
+            return false;
+        }
+        i += 1;
+    }
+    true
+}
+
+// Whether token k is just these cells.
+pub fn are_cells(room: &[u8], k: usize, cells: &[i16]) -> bool {
+    writes_cells(part(room, k), cells)
+}
+
+// Reads the cells of token k. Answers whether it has just so many.
+pub fn cells(room: &[u8], k: usize, out: &mut [i16]) -> bool {
+    fill_cells(out, part(room, k));
+    has_cells(part(room, k), out.len())
 }
 
 // ---- colours

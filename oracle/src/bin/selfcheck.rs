@@ -8,6 +8,7 @@ use std::process::ExitCode;
 
 use oracle::account::{self, account};
 use oracle::case::{Call, Case, Lookup, Quantize, ToMode};
+use oracle::cells::{self, LARGEST};
 use oracle::generate::{self, Style};
 use oracle::hooks::Tables;
 use oracle::model::{self, Entry, Picture, Pixel};
@@ -38,6 +39,13 @@ impl Tally {
 
 fn bits(floats: &[f32]) -> Vec<u32> {
     floats.iter().map(|v| v.to_bits()).collect()
+}
+
+/// The original's cells, each read as a count of sixteenths, are the model's.
+fn hold_cells(tally: &mut Tally, check: &'static str, theirs: &[f32], ours: &[i16], name: &str) {
+    let counts = cells::counts(theirs);
+    let same = counts.as_ref().is_ok_and(|counts| counts == ours);
+    tally.hold(check, same, || format!("{name} {}", counts.as_ref().err().map_or("", String::as_str)));
 }
 
 fn tables_of(case: &Case) -> Tables {
@@ -151,7 +159,7 @@ fn check_account(tally: &mut Tally, picture: &Picture, drawn: &[Pixel], name: &s
         let near = drawn.iter().filter(|p| p.dithered && (0..=4080).contains(&account::held(p, channel)));
         let small = near.map(|p| account::loss(p, channel)).all(|loss| (-8..=7).contains(&loss));
         tally.hold("losses from -8 to 7", small, || format!("{name} channel {channel}"));
-        let bounded = drawn.iter().all(|p| p.cell[channel].abs() <= 4080);
+        let bounded = drawn.iter().all(|p| (-LARGEST..=LARGEST).contains(&p.cell[channel]));
         tally.hold("cells within 4080 sixteenths", bounded, || format!("{name} channel {channel}"));
     }
 }
@@ -164,7 +172,7 @@ fn check_quantize(tally: &mut Tally, case: &Quantize, tables: &Tables, name: &st
         let theirs = original::quantize_pixels(how, *kind, *width, *height, palette, pixels);
         let same = ours.indices == theirs.indices && ours.out == theirs.out;
         tally.hold("quantize_pixels", same, || name.into());
-        tally.hold("cells of quantize_pixels", bits(&ours.cells) == bits(&theirs.cells), || name.into());
+        hold_cells(tally, "cells of quantize_pixels", &theirs.cells, &ours.cells, name);
     }
     if model::is_diffusion(*kind) {
         let picture = bare_picture(*kind, [*width, *height], tables, pixels);
@@ -198,7 +206,7 @@ fn check_to_mode(tally: &mut Tally, case: &ToMode, tables: &Tables, name: &str) 
         tally.hold("a tile is over its limit", theirs.is_none() == ours.tile.is_some(), || name.into());
         if let Some((out, cells)) = theirs {
             tally.hold("dither_to_mode", out == ours.out, || name.into());
-            tally.hold("cells of dither_to_mode", bits(&cells) == bits(&ours.cells), || name.into());
+            hold_cells(tally, "cells of dither_to_mode", &cells, &ours.cells, name);
         }
     }
     if let Some(tile) = ours.tile {

@@ -30,7 +30,7 @@ fn whole_quantize(kind: u32, width: u32, height: u32, entries: usize) -> Case {
         pixels: noise(count, 6),
         indices: vec![0x31; count],
         out: vec![0x32; 4 * count],
-        cells: vec![f32::NAN; cells],
+        cells: vec![i16::MIN; cells],
     })
 }
 
@@ -52,7 +52,7 @@ fn whole_to_mode(kind: u32, width: u32, height: u32, limit: u32, places: usize) 
         places: vec![0x33; 4 * places],
         oklab: vec![f32::NAN; 3 * places],
         out: vec![0x34; 4 * count],
-        cells: vec![f32::NAN; cells],
+        cells: vec![i16::MAX; cells],
     })
 }
 

@@ -1,6 +1,7 @@
 //! What kind of cases are wanted, and the small random parts that cases of every
 //! call are made of.
 
+use crate::cells::LARGEST;
 use crate::hooks::Tables;
 use crate::rng::Rng;
 
@@ -108,6 +109,20 @@ impl Maker<'_> {
                 2 => r.within(0, 8160) as f32 / 16.0 - 255.0,
                 // The exponent stays below that of NaN and infinity.
                 _ => f32::from_bits(r.u32() & 0xbfff_ffff),
+            })
+            .collect()
+    }
+
+    /// What lent cells hold before a call: any 16 bits, their ends and what a picture
+    /// can leave among them. As many random words are taken as for a float, so that all
+    /// else in a case is as it was when cells were floats.
+    pub(super) fn rubbish_cells(&mut self, count: usize) -> Vec<i16> {
+        let r = &mut self.rng;
+        (0..count)
+            .map(|_| match r.below(4) {
+                0 => r.pick(&[i16::MIN, i16::MAX, -1, 1, -LARGEST - 1, LARGEST + 1, 255, -256]),
+                1 => r.within(0, 2 * LARGEST as u64) as i16 - LARGEST,
+                _ => r.u32() as i16,
             })
             .collect()
     }

@@ -98,7 +98,7 @@ impl Maker<'_> {
             3 => self.misfit(&mut case.pixels, 4, 200),
             4 => self.misfit(&mut case.indices, 4, 0x77),
             5 => self.misfit(&mut case.out, 4, 0x78),
-            6 => self.misfit(&mut case.cells, 3, 0.5),
+            6 => self.misfit(&mut case.cells, 3, 8),
             7 => self.misfit(&mut case.palette, 4, 1),
             _ => self.spoil_tables(&mut case.tables),
         }
@@ -198,7 +198,7 @@ impl Maker<'_> {
             }
             4 => self.misfit(&mut case.pixels, 4, 200),
             5 => self.misfit(&mut case.out, 4, 0x78),
-            6 => self.misfit(&mut case.cells, 3, 0.5),
+            6 => self.misfit(&mut case.cells, 3, 8),
             7 => self.spoil_rooms(&mut case.places, &mut case.oklab),
             8 => case.tile[self.rng.below(2) as usize] = self.rng.pick(&[0, 4097, u32::MAX, 65_537]),
             9 => case.limit = self.rng.pick(&[257, 258, 512, 65_536, u32::MAX]),

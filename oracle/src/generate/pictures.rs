@@ -119,8 +119,8 @@ impl Maker<'_> {
         Canvas { shift, width, height, tables, pixels }
     }
 
-    pub(super) fn cells(&mut self, kind: u32, count: usize) -> Vec<f32> {
-        self.rubbish_floats(if model::is_diffusion(kind) { 3 * count } else { 0 })
+    pub(super) fn cells(&mut self, kind: u32, count: usize) -> Vec<i16> {
+        self.rubbish_cells(if model::is_diffusion(kind) { 3 * count } else { 0 })
     }
 
     /// Room for about as many candidates as there are.

@@ -46,8 +46,9 @@ impl Mock {
         Entry { reduced, normalized, oklab: self.convert(model::rgb(normalized)) }
     }
 
-    /// Adds a residual to the cells that the kernel reaches from pixel `i`.
-    fn scatter(&self, drawing: &Drawing, cells: &mut [f32], i: usize, residual: [f32; 3]) {
+    /// Adds a residual, in sixteenths, to the cells that the kernel reaches from pixel
+    /// `i`.
+    fn scatter(&self, drawing: &Drawing, cells: &mut [i16], i: usize, residual: [i32; 3]) {
         let [width, height] = drawing.size.map(|side| side as i64);
         let (x, y) = (i as i64 % width, i as i64 / width);
         for &(dx, dy, weight) in model::kernel(drawing.kind) {
@@ -55,33 +56,69 @@ impl Mock {
             if tx < 0 || ty < 0 || tx >= width || ty >= height {
                 continue;
             }
-            let all = self.has_slip(Slip::AtkinsonSharesAll) && drawing.kind == model::ATKINSON;
-            let weight = if all { weight as f32 * 8.0 / 6.0 } else { weight as f32 };
             let at = 3 * (ty * width + tx) as usize;
-            for k in 0..3 {
-                cells[at + k] += residual[k] * (weight / 16.0);
+            for (k, of_channel) in residual.into_iter().enumerate() {
+                let to = if self.has_slip(Slip::SendGoesToNextChannel) { (k + 1) % 3 } else { k };
+                let sum = i32::from(cells[at + to]) + self.sent(drawing.kind, weight, of_channel);
+                cells[at + to] = self.kept(sum);
             }
         }
     }
 
-    /// A sum to a byte, halves away from zero, within 0..255.
-    fn to_byte(&self, sum: f32) -> u8 {
-        let rounded = if self.has_slip(Slip::RoundsHalvesDown) { (sum - 0.5).ceil() } else { sum.round() };
-        rounded.clamp(0.0, 255.0) as u8
+    /// A weight's share of a residual, all three in sixteenths. The residual of a right
+    /// port is a whole number of levels, so that its share is exact.
+    fn sent(&self, kind: u32, weight: i32, residual: i32) -> i32 {
+        match self.slip {
+            Some(Slip::AtkinsonSharesAll) if kind == model::ATKINSON => residual * weight * 8 / (6 * 16),
+            Some(Slip::SendsWholeLevelsOnly) => residual * weight / 256 * 16,
+            _ => residual * weight / 16,
+        }
     }
 
-    fn diffuse_pixel(&self, drawing: &Drawing, cells: &mut [f32], i: usize) -> Rgba {
+    /// A sum as a cell keeps it. That of a right port is within 4080 either way, and so
+    /// kept as it is; with a slip it may be any.
+    fn kept(&self, sum: i32) -> i16 {
+        let largest = match self.slip {
+            Some(Slip::CellsSaturateInEightBits) => 127,
+            Some(Slip::CellsSaturateInTwelveBits) => 2047,
+            _ => i16::MAX,
+        };
+        sum.clamp(i32::from(-largest) - 1, largest.into()) as i16
+    }
+
+    /// What a cell adds to its source, in sixteenths.
+    fn added(&self, cell: i16) -> i32 {
+        let count = i32::from(cell);
+        match self.slip {
+            // Halves of the cell away from zero, and not those of the sum.
+            Some(Slip::CellRoundedAlone) => 16 * count.signum() * ((count.abs() + 8) / 16),
+            // A division of whole numbers goes toward zero: up, where they are negative.
+            Some(Slip::NegativeCellRoundedTowardZero) => 16 * ((count + 8) / 16),
+            Some(Slip::CellReadUnsigned) => cell.cast_unsigned().into(),
+            _ => count,
+        }
+    }
+
+    /// Sixteenths to a byte, halves up, within 0..255. Where that is not away from zero,
+    /// below 0, all are clipped.
+    fn to_byte(&self, sixteenths: i32) -> u8 {
+        let half = if self.has_slip(Slip::RoundsHalvesDown) { 7 } else { 8 };
+        let rounded = (sixteenths + half).div_euclid(16);
+        if self.has_slip(Slip::BiasedWraps) { rounded as u8 } else { rounded.clamp(0, 255) as u8 }
+    }
+
+    fn diffuse_pixel(&self, drawing: &Drawing, cells: &mut [i16], i: usize) -> Rgba {
         let pixel = drawing.pixel(i);
-        let sum: [f32; 3] = std::array::from_fn(|k| f32::from(pixel[k]) + cells[3 * i + k]);
+        let sum: [i32; 3] = std::array::from_fn(|k| 16 * i32::from(pixel[k]) + self.added(cells[3 * i + k]));
         let biased = sum.map(|v| self.to_byte(v));
         let chosen = self.nearest_entry(drawing, biased);
         let residual = std::array::from_fn(|k| {
             let unrounded = self.has_slip(Slip::ResidualFromUnroundedSum);
-            let had = if unrounded { sum[k] } else { f32::from(biased[k]) };
-            had - f32::from(chosen.normalized[k])
+            let had = if unrounded { sum[k] } else { 16 * i32::from(biased[k]) };
+            had - 16 * i32::from(chosen.normalized[k])
         });
         if self.has_slip(Slip::CellsClearedAfterUse) {
-            cells[3 * i..3 * i + 3].fill(0.0);
+            cells[3 * i..3 * i + 3].fill(0);
         }
         self.scatter(drawing, cells, i, residual);
         chosen.reduced
@@ -92,7 +129,7 @@ impl Mock {
         drawing.candidates[at]
     }
 
-    fn dither_pixel(&self, drawing: &Drawing, cells: &mut [f32], i: usize) -> Rgba {
+    fn dither_pixel(&self, drawing: &Drawing, cells: &mut [i16], i: usize) -> Rgba {
         let color = model::rgb(drawing.pixel(i));
         if model::is_diffusion(drawing.kind) {
             return self.diffuse_pixel(drawing, cells, i);
@@ -112,11 +149,11 @@ impl Mock {
         !self.has_slip(Slip::ColorZeroDithered) && drawing.zero.is_some_and(equal)
     }
 
-    fn draw_pixel(&self, drawing: &Drawing, cells: &mut [f32], i: usize) -> Chosen {
+    fn draw_pixel(&self, drawing: &Drawing, cells: &mut [i16], i: usize) -> Chosen {
         let reduced = self.reduce(drawing.read, drawing.pixel(i));
         let kept = reduced.is_none_or(|c| self.is_zero(drawing, c));
         if kept && self.has_slip(Slip::SkippedPassesCellOn) && !cells.is_empty() {
-            let cell = cells[3 * i..3 * i + 3].try_into().unwrap();
+            let cell = std::array::from_fn(|k| cells[3 * i + k].into());
             self.scatter(drawing, cells, i, cell);
         }
         let reduced = reduced?;
@@ -129,11 +166,24 @@ impl Mock {
         Some((self.dither_pixel(drawing, cells, i), true))
     }
 
-    pub(super) fn draw(&self, drawing: &Drawing, cells: &mut [f32]) -> Vec<Chosen> {
-        if !self.has_slip(Slip::CellsStartAsLent) {
-            cells.fill(0.0);
+    /// How many cells are set to 0 before the first pixel.
+    fn started(&self, lent: usize) -> usize {
+        match self.slip {
+            Some(Slip::CellsStartAsLent) => 0,
+            // As many bytes as there are cells.
+            Some(Slip::HalfOfCellsStarted) => lent / 2,
+            _ => lent,
         }
-        (0..drawing.size[0] * drawing.size[1]).map(|i| self.draw_pixel(drawing, cells, i)).collect()
+    }
+
+    pub(super) fn draw(&self, drawing: &Drawing, cells: &mut [i16]) -> Vec<Chosen> {
+        let started = self.started(cells.len());
+        cells[..started].fill(0);
+        let chosen = (0..drawing.size[0] * drawing.size[1]).map(|i| self.draw_pixel(drawing, cells, i)).collect();
+        if self.has_slip(Slip::AtkinsonCellsInEighths) && drawing.kind == model::ATKINSON {
+            cells.iter_mut().for_each(|cell| *cell /= 2);
+        }
+        chosen
     }
 
     /// The first tile over its limit, row by row.

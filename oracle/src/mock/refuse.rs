@@ -68,14 +68,24 @@ impl Mock {
         over && !self.has_slip(Slip::OriginOverflowAccepted)
     }
 
-    pub(super) fn quantize_number(&self, case: &Quantize, read: Read, lengths: [usize; 3]) -> u32 {
+    /// Whether so many cells are those of a picture of so many pixels.
+    fn cells_fit(&self, lent: usize, kind: u32, count: usize) -> bool {
+        let wanted = if model::is_diffusion(kind) { 3 * count } else { 0 };
+        match self.slip {
+            Some(Slip::CellsMeasuredInBytes) => lent == size_of::<i16>() * wanted,
+            Some(Slip::MoreCellsAccepted) => lent >= wanted,
+            _ => lent == wanted,
+        }
+    }
+
+    pub(super) fn quantize_number(&self, case: &Quantize, read: Read, [indices, out, cells]: [usize; 3]) -> u32 {
         let count = case.width as usize * case.height as usize;
-        let cells = if model::is_diffusion(case.kind) { 3 * count } else { 0 };
         let fit = read.reduction.len() == 256
             && read.scale.len() == 256
             && read.pixels.len() == 4 * count
             && read.palette.len() % 4 == 0
-            && lengths == [count, 4 * count, cells];
+            && [indices, out] == [count, 4 * count]
+            && self.cells_fit(cells, case.kind, count);
         self.say(&[
             (self.unknown(case.kind) || case.shift < 3 || case.shift > 5, 1),
             (self.retired(case.kind), 15),
@@ -87,12 +97,11 @@ impl Mock {
 
     pub(super) fn to_mode_number(&self, case: &ToMode, read: Read, rooms: &Rooms) -> u32 {
         let count = case.width as usize * case.height as usize;
-        let cells = if model::is_diffusion(case.kind) { 3 * count } else { 0 };
         let fit = read.reduction.len() == 256
             && read.scale.len() == 256
             && read.pixels.len() == 4 * count
             && rooms.out.len() == 4 * count
-            && rooms.cells.len() == cells
+            && self.cells_fit(rooms.cells.len(), case.kind, count)
             && self.rooms_fit(rooms.places, rooms.oklab);
         let sides = case.tile.iter().all(|&side| side > 0 && side <= 4096);
         self.say(&[
@@ -120,6 +129,14 @@ impl Mock {
         }
     }
 
+    /// The same for cells, which the slips for it clear before the call is refused.
+    pub(super) fn leave_cells(&self, number: u32, cells: &mut [i16]) {
+        let seven = number == 7 && self.has_slip(Slip::SevenClearsCells);
+        if seven || number != 7 && self.has_slip(Slip::RefusalClearsCells) {
+            cells.fill(0);
+        }
+    }
+
     pub(super) fn refuse_with_seven(&self, places: &mut [u8], oklab: &mut [f32]) {
         if !self.has_slip(Slip::SevenLeavesPlaces) {
             places.fill(0);
@@ -133,9 +150,13 @@ impl Mock {
         if !self.has_slip(Slip::EightLeavesPixels) {
             rooms.out.fill(0);
         }
-        if !self.has_slip(Slip::EightLeavesCells) {
-            rooms.cells.fill(0.0);
-        }
+        let cleared = match self.slip {
+            Some(Slip::EightLeavesCells) => 0,
+            // As many bytes as there are cells.
+            Some(Slip::EightClearsHalfOfCells) => rooms.cells.len() / 2,
+            _ => rooms.cells.len(),
+        };
+        rooms.cells[..cleared].fill(0);
         if self.has_slip(Slip::EightClearsCandidates) {
             rooms.places.fill(0);
         }

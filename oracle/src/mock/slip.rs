@@ -36,6 +36,23 @@ pub enum Slip {
     RetiredKindUnknown,
     StippleHDrawn,
     StippleVGivenToLineV,
+    // Cells as counts of sixteenths: how one is read, sent and kept, and how they are
+    // measured, started and left.
+    CellRoundedAlone,
+    NegativeCellRoundedTowardZero,
+    CellReadUnsigned,
+    BiasedWraps,
+    SendGoesToNextChannel,
+    SendsWholeLevelsOnly,
+    CellsSaturateInEightBits,
+    CellsSaturateInTwelveBits,
+    AtkinsonCellsInEighths,
+    CellsMeasuredInBytes,
+    MoreCellsAccepted,
+    HalfOfCellsStarted,
+    EightClearsHalfOfCells,
+    SevenClearsCells,
+    RefusalClearsCells,
     // Others.
     Alpha127Opaque,
     RootOffByOne,
@@ -71,7 +88,7 @@ pub enum Slip {
 }
 
 impl Slip {
-    pub const ALL: [Slip; 60] = [
+    pub const ALL: [Slip; 75] = [
         Slip::LastOfEqualNearest,
         Slip::LastOfEqualShortlist,
         Slip::LastOfEqualResidual,
@@ -101,6 +118,21 @@ impl Slip {
         Slip::RetiredKindUnknown,
         Slip::StippleHDrawn,
         Slip::StippleVGivenToLineV,
+        Slip::CellRoundedAlone,
+        Slip::NegativeCellRoundedTowardZero,
+        Slip::CellReadUnsigned,
+        Slip::BiasedWraps,
+        Slip::SendGoesToNextChannel,
+        Slip::SendsWholeLevelsOnly,
+        Slip::CellsSaturateInEightBits,
+        Slip::CellsSaturateInTwelveBits,
+        Slip::AtkinsonCellsInEighths,
+        Slip::CellsMeasuredInBytes,
+        Slip::MoreCellsAccepted,
+        Slip::HalfOfCellsStarted,
+        Slip::EightClearsHalfOfCells,
+        Slip::SevenClearsCells,
+        Slip::RefusalClearsCells,
         Slip::Alpha127Opaque,
         Slip::RootOffByOne,
         Slip::RootDownward,

@@ -7,13 +7,17 @@ pub const BLACK: [u8; 4] = [0, 0, 0, 255];
 pub const WHITE: [u8; 4] = [31, 31, 31, 255];
 pub const CLEAR: [u8; 4] = [200, 100, 50, 127];
 
-/// The kinds that are drawn, and those that are retired.
+/// The kinds that are drawn, those of them that pass error on, and those that
+/// are retired.
 pub const DRAWN: [u32; 9] = [0, 1, 2, 3, 4, 7, 8, 9, 10];
+pub const DIFFUSING: [u32; 2] = [9, 10];
 pub const RETIRED: [u32; 2] = [5, 6];
 
 /// What the lent slices hold before a call.
 pub const RUBBISH: u8 = 0xee;
 pub const ODD: f32 = 7.25;
+/// No cell can be this far from 0 after a call that accepts.
+pub const STRAY: i16 = -4370;
 
 /// The tables of five bits a channel.
 pub struct FiveBits {
@@ -51,7 +55,7 @@ pub struct Lent {
     pub places: Vec<u8>,
     pub oklab: Vec<f32>,
     pub out: Vec<u8>,
-    pub cells: Vec<f32>,
+    pub cells: Vec<i16>,
 }
 
 impl Lent {
@@ -62,7 +66,7 @@ impl Lent {
             places: vec![RUBBISH; 4 * places],
             oklab: vec![ODD; 3 * places],
             out: vec![RUBBISH; 4 * pixels],
-            cells: vec![ODD; if kind::is_diffusion(kind) { 3 * pixels } else { 0 }],
+            cells: vec![STRAY; if kind::is_diffusion(kind) { 3 * pixels } else { 0 }],
         }
     }
 

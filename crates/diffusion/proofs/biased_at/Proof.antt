@@ -1,26 +1,26 @@
--- `diffusion::biased_at` meets its contract: a cell of the buffer is a cell. Assumes nothing.
+-- `diffusion::biased_at` meets its contract: the cell that is read is the buffer's. Assumes nothing.
 use borrow.Author.Needs.{needs}
-use lib.IntN.{pos}
-use lib.ListN.{getD}
-use Rattle.floats.proofs.Cells.{cell-at}
+use mathlib.Core.Path.{_∙_, ap}
+use mir.Syntax.{w16}
+use mir.ValLaws.{toZ-ofZ}
+use Rattle.diffusion.specs.Biased.{biasedOf}
 use Rattle.diffusion.proofs.biased_at.Statement.{statement}
 use Rattle.diffusion.proofs.biased_at.Tie as tie
 
 mul-biased : tie.Need-mul-biased
 mul-biased c = search needs
 
-shared-slice-read-biased : tie.Need-shared-slice-read-biased
-shared-slice-read-biased c = search needs
+shared-slice-copy-out-biased : tie.Need-shared-slice-copy-out-biased
+shared-slice-copy-out-biased c = search needs
 
 biased-requires : tie.Need-biased-requires
-biased-requires c κs =
-    let s = c .before .before in
-    (getD (s .pre .1 .0) (s .args .at) (pos 0), cell-at 4080 (s .args .cells .now) (s .pre .1 .0) (s .args .at) (s .pre .1 .1) (s .pre .0))
+biased-requires c κs = search needs
 
 returns : tie.Need-returns
-returns c zs C =
-    let s = c .before .before .before in
-    c .biased .ensures (getD zs (s .args .at) (pos 0)) (cell-at 4080 (s .args .cells .now) zs (s .args .at) C (s .pre .0))
+returns c =
+    c .biased .ensures
+    ∙ ap (biasedOf (c .before .before .args .source)) (toZ-ofZ w16 _ (record { sfits = c .before .biased-arg .given }))
 
 pub biased-at-spec : {M : Type 1} → statement M
-biased-at-spec = tie.close (tie.spec mul-biased shared-slice-read-biased biased-requires returns)
+biased-at-spec =
+    tie.close (tie.spec mul-biased shared-slice-copy-out-biased biased-requires returns)

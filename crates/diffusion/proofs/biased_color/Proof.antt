@@ -28,13 +28,15 @@ new-requires : tie.Need-new-requires
 new-requires c κs = search needs
 
 returns : tie.Need-returns
-returns c zs C = λ q. record { 0 = same q }
+returns c = λ q. record { 0 = same q }
   where
-    same : c .new .result .0 ≡ biasedColor (c .before .before .before .before .before .args .color) zs (c .before .before .before .before .before .args .i) .0
+    same : c .new .result .0
+        ≡ biasedColor (c .before .before .before .before .args .color) (c .before .before .before .before .args .cells .now)
+        (c .before .before .before .before .args .i) .0
     same =
         c .new .ensures
-        ∙ (λ q. rgba (c .before .before .before .biased-at .ensures zs C q) (c .before .before .biased-at2 .ensures zs C q)
-        (c .before .biased-at3 .ensures zs C q) (c .before .before .before .before .before .args .color .0 .a))
+        ∙ (λ q. rgba (c .before .before .before .biased-at .ensures q) (c .before .before .biased-at2 .ensures q) (c .before .biased-at3 .ensures q)
+        (c .before .before .before .before .args .color .0 .a))
 
 pub biased-color-spec : {M : Type 1} → statement M
 biased-color-spec =

@@ -1,23 +1,23 @@
--- `diffusion::in_sixteenths` meets its contract: sixteen times the sum is a whole number, and casts to itself. Assumes nothing.
+-- `diffusion::in_sixteenths` meets its contract: a byte times 16 and a cell have room in 32 bits. Assumes nothing.
 use borrow.Author.Needs.{needs}
-use mathlib.Core.Path.{_∙_}
-use mir.Syntax.{w32}
-use mir.ValLaws.{toZ-ofZ}
-use lib.Ieee.Casts.{toSigned-in}
-use Rattle.floats.proofs.Sixteenths.{cell-cast}
+use Rattle.diffusion.proofs.Machine.{times-fits, cell-fits, both-fit, both-is}
 use Rattle.diffusion.proofs.in_sixteenths.Statement.{statement}
 use Rattle.diffusion.proofs.in_sixteenths.Tie as tie
 
-int-to-float-result : tie.Need-int-to-float-result
-int-to-float-result c = search needs
+cast-result : tie.Need-cast-result
+cast-result c = search needs
 
-float-to-int-result : tie.Need-float-to-int-result
-float-to-int-result c =
-    cell-cast (c .before .before .args .source) (c .before .before .args .cell) (c .before .before .pre .0) (search needs) (c .before .before .pre .1) .0
+mul-result : tie.Need-mul-result
+mul-result c = times-fits (c .args .source) (c .args .cell) (search needs) (c .fits .cell)
+
+cast-result-2 : tie.Need-cast-result-2
+cast-result-2 c = cell-fits (c .args .source) (c .args .cell) (search needs) (c .fits .cell)
+
+add-result : tie.Need-add-result
+add-result c = both-fit (c .args .source) (c .args .cell) (search needs) (c .fits .cell)
 
 returns : tie.Need-returns
-returns c n h =
-    toZ-ofZ w32 _ (record { sfits = toSigned-in 31 _ }) ∙ cell-cast (c .before .before .args .source) (c .before .before .args .cell) n (search needs) h .1
+returns c = both-is (c .args .source) (c .args .cell) (search needs) (c .fits .cell)
 
 pub in-sixteenths-spec : {M : Type 1} → statement M
-in-sixteenths-spec = tie.close (tie.spec int-to-float-result float-to-int-result returns)
+in-sixteenths-spec = tie.close (tie.spec cast-result mul-result cast-result-2 add-result returns)

@@ -1,48 +1,88 @@
--- `diffusion::send_three` meets its contract: three sends, between which the cells stay small enough. Assumes nothing.
+-- `diffusion::send_three` meets its contract: three sends, of which none changes the room that another needs. Assumes nothing.
 use borrow.Author.Needs.{needs}
-use Prim.Native.Nat.{_+_, _*_}
-use lib.Dec.{lit≤}
-use lib.IntN.{pos, _*ℤ_}
+use mathlib.Core.Path.{_≡_, sym, ap, _∙_, subst}
+use mathlib.Core.List.{List}
+use Prim.Native.Nat.{ℕ, _+_, _*_}
+use native.Mathlib.Nat.{add-zero}
+use native.Mathlib.Omega.{arith}
+use lib.Dec.{lit<}
+use lib.IntN.{ℤ, pos, _*ℤ_}
+use lib.ListN.{length}
+use mir.Syntax.{w16}
+use mir.ValLaws.{toZ-ofZ}
 use Rattle.diffusion.specs.Scatter.{more, send}
-use Rattle.diffusion.proofs.Cells.{wider, cells-more}
+use Rattle.diffusion.specs.Sends.{RoomIn}
+use Rattle.diffusion.proofs.Scatter.{more-length}
+use Rattle.diffusion.proofs.Machine.{room-kept}
 use Rattle.diffusion.proofs.send_three.Statement.{statement}
 use Rattle.diffusion.proofs.send_three.Tie as tie
+
+-- the room of each channel, and that of a later channel after an earlier one's send
+module _ (s : tie.Start) where
+  red : RoomIn (s .args .cells .now) (3 * s .args .i) (s .args .weight)
+  red = subst (λ (n : ℕ). RoomIn (s .args .cells .now) n (s .args .weight)) (add-zero (3 * s .args .i)) (s .pre .3 0 (lit< tt))
+
+  green : {cells : List ℤ} (z : ℤ) → cells ≡ more (s .args .cells .now) (3 * s .args .i) z → RoomIn cells (3 * s .args .i + 1) (s .args .weight)
+  green z e =
+      subst (λ (v : List ℤ). RoomIn v (3 * s .args .i + 1) (s .args .weight)) (sym e)
+      (room-kept (s .args .cells .now) (3 * s .args .i + 1) (3 * s .args .i) (s .args .weight) z (omega (arith, s .pre .0)) (λ q. omega arith)
+      (s .pre .3 1 (lit< tt)))
+
+  blue : {once twice : List ℤ} (z y : ℤ) → once ≡ more (s .args .cells .now) (3 * s .args .i) z → twice ≡ more once (3 * s .args .i + 1) y
+      → RoomIn twice (3 * s .args .i + 2) (s .args .weight)
+  blue {once} z y e f =
+      subst (λ (v : List ℤ). RoomIn v (3 * s .args .i + 2) (s .args .weight)) (sym f)
+      (room-kept once (3 * s .args .i + 2) (3 * s .args .i + 1) (s .args .weight) y (omega (arith, long, s .pre .0)) (λ q. omega arith)
+      (subst (λ (v : List ℤ). RoomIn v (3 * s .args .i + 2) (s .args .weight)) (sym e)
+      (room-kept (s .args .cells .now) (3 * s .args .i + 2) (3 * s .args .i) (s .args .weight) z (omega (arith, s .pre .0)) (λ q. omega arith)
+      (s .pre .3 2 (lit< tt)))))
+    where
+      long : length once ≡ length (s .args .cells .now)
+      long = ap length e ∙ more-length (s .args .cells .now) (3 * s .args .i) z
+
+returns : tie.Need-returns
+unfolding send
+returns c =
+    let s = c .before .before .before .before .before .before .before .before .before in
+    c .before .send-one3 .ensures
+    ∙ (λ q. more (c .before .before .before .before .send-one2 .ensures q) (3 * s .args .i + 2) (toZ-ofZ w16 (s .args .b) (s .fits .b) q *ℤ pos (s .args .weight)))
+    ∙ (λ q. more (more (c .before .before .before .before .before .before .before .send-one .ensures q) (3 * s .args .i + 1)
+    (toZ-ofZ w16 (s .args .g) (s .fits .g) q *ℤ pos (s .args .weight))) (3 * s .args .i + 2) (s .args .b *ℤ pos (s .args .weight)))
+    ∙ (λ q. more (more (more (s .args .cells .now) (3 * s .args .i) (toZ-ofZ w16 (s .args .r) (s .fits .r) q *ℤ pos (s .args .weight))) (3 * s .args .i + 1)
+    (s .args .g *ℤ pos (s .args .weight))) (3 * s .args .i + 2) (s .args .b *ℤ pos (s .args .weight)))
 
 mul-at : tie.Need-mul-at
 mul-at c = search needs
 
 send-one-requires : tie.Need-send-one-requires
-send-one-requires c κs = search needs
+send-one-requires c κs =
+    let s = c .before in
+    (omega (arith, s .pre .0), rw (toZ-ofZ w16 (s .args .r) (s .fits .r)) (s .pre .2 .red), red s)
 
 add-send-one : tie.Need-add-send-one
 add-send-one c = search needs
 
 send-one-requires-2 : tie.Need-send-one-requires-2
-send-one-requires-2 c κs = search needs
+send-one-requires-2 c κs =
+    let s = c .before .before .before .before in
+    let first = c .before .before .send-one in
+    (omega (arith, first .kept .0, s .pre .0), rw (toZ-ofZ w16 (s .args .g) (s .fits .g)) (s .pre .2 .green), green s _ (first .ensures))
 
 add-send-one-2 : tie.Need-add-send-one-2
 add-send-one-2 c = search needs
 
 send-one-requires-3 : tie.Need-send-one-requires-3
-send-one-requires-3 c κs = search needs
+send-one-requires-3 c κs =
+    let s = c .before .before .before .before .before .before .before in
+    let first = c .before .before .before .before .before .send-one in
+    let second = c .before .before .send-one2 in (
+      omega (arith, second .kept .0, first .kept .0, s .pre .0),
+      rw (toZ-ofZ w16 (s .args .b) (s .fits .b)) (s .pre .2 .blue),
+      blue s _ _ (first .ensures) (second .ensures),
+    )
 
 same-length : tie.Need-same-length
 same-length c = search needs
-
-returns : tie.Need-returns
-unfolding send
-returns c zs rs w h R q W L =
-    let i = c .before .before .before .before .before .before .before .before .before .before .before .before .before .args .i in
-    let once = more zs (3 * i) (rs 0 *ℤ pos w) in
-    let twice = more once (3 * i + 1) (rs 1 *ℤ pos w) in
-    let first =
-    c .before .before .before .before .before .before .before .before .before .before .send-one .ensures zs (rs 0) w (wider 8160 65536 _ zs (lit≤ tt) h)
-    (R .red) q W L in
-    let after = cells-more 8160 _ _ zs (3 * i) (rs 0) w h (R .red .small) L first in
-    let second =
-    c .before .before .before .before .before .before .send-one2 .ensures once (rs 1) w (wider 12240 65536 _ once (lit≤ tt) after) (R .green) q W L in
-    let after2 = cells-more 12240 _ _ once (3 * i + 1) (rs 1) w after (R .green .small) L second in
-    c .before .before .send-one3 .ensures twice (rs 2) w (wider 16320 65536 _ twice (lit≤ tt) after2) (R .blue) q W L
 
 pub send-three-spec : {M : Type 1} → statement M
 send-three-spec =

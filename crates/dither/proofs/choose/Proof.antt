@@ -17,7 +17,7 @@ asked s = let a = s .args in commission (a .s) (a .reduction .now) (a .scale .no
 
 -- where the drawing is called
 abbrev start : tie.After-draw-arg2 → tie.Start
-start c = c .before .before .before .before .before .before .before .before .before .before .before .before .before .before
+start c = c .before .before .before .before .before .before .before .before .before .before .before .before .before
 
 -- the picture that is drawn is the one that is promised
 same : (c : tie.After-draw-arg2)
@@ -52,7 +52,7 @@ draw-requires : tie.Need-draw-requires
 draw-requires c κs =
     let s = start c in
     let f = s .pre .1 in
-    let read = c .before .before .before .before .before .before .before .before .before .before .before .before in
+    let read = c .before .before .before .before .before .before .before .before .before .before .before in
     let reduces : (k : ℕ) → getD (s .args .reduction .now) k 0 < 256 = λ k. omega (arith, read .before .shared-slice-known .given k) in
     let scales : (k : ℕ) → getD (s .args .scale .now) k 0 < 256 = λ k. omega (arith, read .shared-slice-known2 .given k) in
     (s .pre .0, ready (asked s) (s .pre .2) f (c .before .before .before .before .before .width-of .result) reduces scales, f .out-long, f .cells-long)
@@ -65,7 +65,7 @@ same-length-2 c = search needs
 
 returns : tie.Need-returns
 returns c =
-    let d = c .before .before .before .before .before in
+    let d = c .before .before .before .before in
     let e = same (d .before) in
     (d .draw .ensures .0 ∙ ap reducedBytes e, d .draw .ensures .1 ∙ ap (λ (p : Drawing). cellsAfter p (start (d .before) .args .cells .now)) e)
 

@@ -2,8 +2,8 @@
 use mathlib.Core.Path.{_≡_, _∙_, ap}
 use Prim.Native.Nat.{ℕ}
 use native.Mathlib.Omega.{arith}
+use lib.IntN.{pos}
 use lib.ListN.{length, replicate}
-use lib.Ieee.{ofBits, binary32}
 use Rattle.drawing.proofs.FinishedLaws.{finished-all}
 use Rattle.dither.specs.Mode.{Commission, commission, dithering}
 use Rattle.dither.proofs.DrawnLaws.{at, judgeable, finishable}
@@ -19,12 +19,12 @@ asked s = let a = s .args in commission (a .s) (a .reduction .now) (a .scale .no
 
 -- where the choices are made
 abbrev start : tie.After-choose → tie.Start
-start c = c .before .before .before .before .before .before .before .before .before .before
+start c = c .before .before .before .before .before .before .before .before .before
 
 -- the answer of judging is that of the choices
-judged : (c : tie.After-judge) → c .judge .result ≡ verdict (asked (start (c .before .before .before .before .before .before)))
+judged : (c : tie.After-judge) → c .judge .result ≡ verdict (asked (start (c .before .before .before .before .before)))
 judged c =
-    let k = c .before .before .before .before .before .before in
+    let k = c .before .before .before .before .before in
     let s = start k in
     c .judge .ensures ∙ judged-bytes (asked s) _ (at (asked s) (s .pre .1) _ (k .choose .ensures .0))
 
@@ -33,12 +33,12 @@ choose-requires c κs = search needs
 
 judge-requires : tie.Need-judge-requires
 judge-requires c κs =
-    let k = c .before .before .before .before .before in
+    let k = c .before .before .before .before in
     let s = start k in
     judgeable (asked s) (s .pre .1) _ (k .choose .ensures .0)
 
 cast-counted : tie.Need-cast-counted
-cast-counted c = let h = start (c .before .before .before .before .before .before) .pre .3 in omega arith
+cast-counted c = let h = start (c .before .before .before .before .before) .pre .3 in omega arith
 
 enum-known-verdict : tie.Need-enum-known-verdict
 enum-known-verdict c = search needs
@@ -54,15 +54,15 @@ same-length-2 c = search needs
 
 returns : tie.Need-returns
 returns c =
-    let w = c .before .before .before .before .wipe .ensures in
-    let j = c .before .before .before .before .before .before .before .before .before .before in
-    let k = c .before .before .before .before .before .before .before .before .before .before .before .before .before .before .before .before in
+    let w = c .before .before .before .wipe .ensures in
+    let j = c .before .before .before .before .before .before .before .before .before in
+    let k = c .before .before .before .before .before .before .before .before .before .before .before .before .before .before in
     let s = start k in
     let out : length (k .choose .last .1 .1 .1 .1 .1 .1 .1 .1 .0) ≡ length (s .args .out .now) = omega arith in
     let cells : length (k .choose .last .1 .1 .1 .1 .1 .1 .1 .1 .1 .0) ≡ length (s .args .cells .now) = omega arith in
-    let over = c .before .before .before .before .before .before .before .before .verdict .given .1 in
+    let over = c .before .before .before .before .before .before .before .verdict .given .1 in
     completed-over (asked s) (s .pre .2 .counted) _ (judged-over (asked s) (judged j) _ over)
-    (w .0 ∙ ap (λ (n : ℕ). replicate n 0) out) (w .1 ∙ ap (λ (n : ℕ). replicate n (ofBits binary32 0)) cells)
+    (w .0 ∙ ap (λ (n : ℕ). replicate n 0) out) (w .1 ∙ ap (λ (n : ℕ). replicate n (pos 0)) cells)
 
 enum-told : tie.Need-enum-told
 enum-told c = search needs
@@ -74,11 +74,11 @@ cast-size-2 : tie.Need-cast-size-2
 cast-size-2 c = search needs
 
 mul-size : tie.Need-mul-size
-mul-size c = let h = start (c .before .before .before .before .before .before .before .before .before .before) .pre .1 .small in omega arith
+mul-size c = let h = start (c .before .before .before .before .before .before .before .before .before) .pre .1 .small in omega arith
 
 finish-requires : tie.Need-finish-requires
 finish-requires c κs =
-    let k = c .before .before .before .before .before .before .before .before .before .before .before in
+    let k = c .before .before .before .before .before .before .before .before .before .before in
     let s = start k in
     finishable (asked s) (s .pre .1) _ (k .choose .ensures .0)
 
@@ -92,7 +92,7 @@ returns-2 : tie.Need-returns-2
 returns-2 c =
     let t = c .before .before .before .before .before .before in
     let j = c .before .before .before .before .before .before .before .before in
-    let k = c .before .before .before .before .before .before .before .before .before .before .before .before .before .before in
+    let k = c .before .before .before .before .before .before .before .before .before .before .before .before .before in
     let s = start k in
     completed (asked s) (s .pre .2 .counted) (judged-fits (asked s) (judged j) (t .enum-told .given .1))
     (c .before .before .finish .ensures ∙ finished-all (dithering (asked s)) _ (k .choose .ensures .0)) (k .choose .ensures .1)

@@ -21,14 +21,14 @@ held s = let a = s .args in buffers (a .places .now) (a .oklab .now) (a .out .no
 
 -- where the checks are passed
 abbrev start : tie.Else1 → tie.Start
-start c = c .before .before .before .before .before .before .before .before .before
+start c = c .before .before .before .before .before .before .before .before
 
 refusal-requires : tie.Need-refusal-requires
 refusal-requires c κs = search needs
 
 returns : tie.Need-returns
 returns c =
-    let s = c .before .before .before .before .before .before .before .before .before in
+    let s = c .before .before .before .before .before .before .before .before in
     call-refused (asked s) (held s) (c .before .refusal .ensures) (c .if1 .taken)
 
 -- past the checks no number is given
@@ -103,7 +103,7 @@ same-length-6 c = search needs
 
 returns-3 : tie.Need-returns-3
 returns-3 c =
-    let d = c .before .before .before .before in
+    let d = c .before .before .before in
     let a = d .before in
     let e = a .before .before .before .before .before .before .before .before .before .before .before .before .before .before .before .before .before .before .before in
     let s = start e in

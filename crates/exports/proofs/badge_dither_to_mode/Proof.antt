@@ -12,7 +12,7 @@ use Rattle.exports.proofs.badge_dither_to_mode.Tie as tie
 -- after the call: where it answers the case y, and leaves `then`
 module _ (d : tie.After-dither-to-mode) where
   abbrev s : tie.Start
-  s = d .before .before .before .before .before .before .before .before .before .before .before .before .before
+  s = d .before .before .before .before .before .before .before .before .before .before .before .before
 
   abbrev asked : ColorZero → Commission
   asked zero =
@@ -66,7 +66,7 @@ same-length-4 c = search needs
 
 returns : tie.Need-returns
 returns c =
-    let d = c .before .before .before .before .before .before .before .before .before .before .before in handed d (d .dither-to-mode .ensures)
+    let d = c .before .before .before .before .before .before .before .before .before .before in handed d (d .dither-to-mode .ensures)
     (c .before .k .given .1)
 
 same-length-5 : tie.Need-same-length-5
@@ -83,7 +83,7 @@ same-length-8 c = search needs
 
 returns-2 : tie.Need-returns-2
 returns-2 c =
-    let d = c .before .before .before .before .before .before .before .before .before .before .before in handed d (d .dither-to-mode .ensures)
+    let d = c .before .before .before .before .before .before .before .before .before .before in handed d (d .dither-to-mode .ensures)
     (c .before .t .given .1)
 
 same-length-9 : tie.Need-same-length-9
@@ -100,7 +100,7 @@ same-length-12 c = search needs
 
 returns-3 : tie.Need-returns-3
 returns-3 c =
-    let d = c .before .before .before .before .before .before .before .before .before .before .before in handed d (d .dither-to-mode .ensures)
+    let d = c .before .before .before .before .before .before .before .before .before .before in handed d (d .dither-to-mode .ensures)
     (c .before .number .given .1)
 
 pub badge-dither-to-mode-spec : {M : Type 1} → statement M

@@ -32,8 +32,8 @@ same-length-3 c = search needs
 
 returns : tie.Need-returns
 returns c =
-    let p = c .before .before .before .before .before .before .before .before in
-    let s = p .before .before .before .before .before .before .before .before .before .before .before in
+    let p = c .before .before .before .before .before .before .before in
+    let s = p .before .before .before .before .before .before .before .before .before .before in
     quantized-by-case (asked s) (s .args .indices .now) (s .args .out .now) (s .args .cells .now) (p .quantize-pixels .ensures) (c .enum-told .given .1)
 
 same-length-4 : tie.Need-same-length-4
@@ -47,8 +47,8 @@ same-length-6 c = search needs
 
 returns-2 : tie.Need-returns-2
 returns-2 c =
-    let p = c .before .before .before .before .before .before .before .before .before in
-    let s = p .before .before .before .before .before .before .before .before .before .before .before in
+    let p = c .before .before .before .before .before .before .before .before in
+    let s = p .before .before .before .before .before .before .before .before .before .before in
     quantized-by-case (asked s) (s .args .indices .now) (s .args .out .now) (s .args .cells .now) (p .quantize-pixels .ensures) (c .before .number .given .1)
 
 pub badge-quantize-pixels-spec : {M : Type 1} → statement M

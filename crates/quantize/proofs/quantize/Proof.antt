@@ -27,7 +27,7 @@ asked s =
 
 -- where the palette's Oklab is made, and the room's front is that
 abbrev began : tie.After-put-list-oklab → tie.Start
-began c = c .before .before .before .before .before .before .before .before .before .before .before .before
+began c = c .before .before .before .before .before .before .before .before .before .before .before
 
 front : (c : tie.After-put-list-oklab)
     → let q = asked (began c) in take (3 * entries q) (c .put-list-oklab .last .1 .1 .1 .1 .0) ≡ paletteOklab q
@@ -38,7 +38,7 @@ front c =
 fit : (c : tie.After-put-list-oklab) → let q = asked (began c) in RangedList (paletteOklab q) (entries q)
 fit c =
     let q = asked (began c) in
-    let read = c .before .before .before .before .before .before .before .before .before .before in
+    let read = c .before .before .before .before .before .before .before .before .before in
     let bytes : (k : ℕ) → getD (q .scale) k 0 < 256 = λ k. omega (arith, read .shared-slice-known2 .given k) in
     list-fit (q .scale) (reducedAt (q .palette)) (entries q) bytes
 
@@ -95,7 +95,7 @@ draw-requires c κs =
 
 finish-requires : tie.Need-finish-requires
 finish-requires c κs =
-    let d = c .before .before .before .before .before .before .before in
+    let d = c .before .before .before .before .before .before in
     let s = began (listed (d .before)) in
     let a = s .args in
     finishable (asked s) (a .indices .now) (a .out .now) (a .cells .now) (s .pre .0) (fit (listed (d .before))) _ (drawn-over d)
@@ -114,7 +114,7 @@ same-length-4 c = search needs
 
 returns : tie.Need-returns
 returns c =
-    let d = c .before .before .before .before .before .before .before .before .before .before in
+    let d = c .before .before .before .before .before .before .before .before .before in
     let s = began (listed (d .before)) in
     let a = s .args in
     let q = asked s in

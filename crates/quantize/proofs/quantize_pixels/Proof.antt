@@ -21,7 +21,7 @@ rows s = replies (asked s) (s .args .indices .now) (s .args .out .now) (s .args 
 
 -- where the number is known
 abbrev start : tie.After-refusal → tie.Start
-start c = c .before .before .before .before .before .before .before .before
+start c = c .before .before .before .before .before .before .before
 
 refusal-requires : tie.Need-refusal-requires
 refusal-requires c κs = search needs
@@ -69,7 +69,7 @@ answer-requires-2 c κs = search needs
 -- an acceptance leaves the work
 returns-2 : tie.Need-returns-2
 returns-2 c =
-    let k = c .before .before .before .before .before .before .before .before in
+    let k = c .before .before .before .before .before .before .before in
     let e = k .before .before .before .before .before in
     let n = e .before .refusal in
     let own : numberOf (c .answer2 .result) ≡ 0 = ap numberOf (c .answer2 .ensures) ∙ own-number (n .result) ∙ e .if1 .left in

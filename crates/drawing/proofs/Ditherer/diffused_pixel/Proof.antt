@@ -8,7 +8,7 @@ use native.Mathlib.Omega.{arith}
 use lib.ListN.{getD}
 use Rattle.drawing.specs.Lent.{isSkipped, Lent, lent, reducedLent}
 use Rattle.drawing.proofs.PositionLaws.{takes-skipped}
-use Rattle.drawing.proofs.TurnLaws.{turn-length, turn-cells, turn-skipped, turn-choice, turn-passed}
+use Rattle.drawing.proofs.TurnLaws.{turn-length, turn-room, turn-skipped, turn-choice, turn-passed}
 use Rattle.drawing.proofs.StepLaws.{choosable, placed, skipped-as}
 use borrow.Author.Needs.{needs}
 use Rattle.drawing.proofs.Ditherer.diffused_pixel.Statement.{statement}
@@ -16,7 +16,7 @@ use Rattle.drawing.proofs.Ditherer.diffused_pixel.Tie as tie
 
 -- where it is asked whether the pixel is skipped
 abbrev start : tie.After-is-skipped → tie.Start
-start c = c .before .before .before .before .before .before .before .before
+start c = c .before .before .before .before .before .before .before
 
 -- what was lent
 abbrev given : tie.Start → Lent
@@ -28,7 +28,7 @@ skipped c t e = skipped-as _ _ _ _ _ (c .before .reduced-at .ensures) (c .is-ski
 
 -- the scale table holds bytes
 bytes : (c : tie.After-is-skipped) (v : ℕ) → getD (start c .args .scale .now) v 0 ≤ 255
-bytes c v = omega (arith, c .before .before .before .before .before .before .shared-slice-known2 .given v)
+bytes c v = omega (arith, c .before .before .before .before .before .shared-slice-known2 .given v)
 
 reduced-at-requires : tie.Need-reduced-at-requires
 reduced-at-requires c κs = search needs
@@ -55,13 +55,13 @@ diffusion-color-at-requires c κs =
     let k = c .before .before .before .before in
     let s = start k in
     let p = s .pre in
-    let cells = turn-cells (s .args .self) (s .args .zero) (given s) (bytes k) _ _ (le-of-lt (p .3)) (p .4) in (
+    let room = turn-room (s .args .self) (s .args .zero) (given s) (bytes k) _ _ (le-of-lt (p .3)) (p .4) in (
       p .0,
       choosable (p .1) _ (p .3) (skipped k _ (c .before .before .before .if1 .left)),
       placed (p .1) _ (p .3),
       p .2,
       turn-length _ _ _ (le-of-lt (p .3)) (p .4),
-      (_, cells),
+      room,
       p .5,
     )
 
@@ -70,16 +70,15 @@ same-length c = search needs
 
 returns-2 : tie.Need-returns-2
 returns-2 c =
-    let k = c .before .before .before .before .before .before .before in
+    let k = c .before .before .before .before .before .before in
     let s = start k in
     let a = s .args in
     let p = s .pre in
-    let dithers = skipped k _ (c .before .before .before .before .before .before .if1 .left) in
-    let own = c .before .before .before .before .before .source-at .ensures in
-    let called = c .before .before .diffusion-color-at .ensures in
-    let made = called .0 _ (turn-cells (a .self) (a .zero) (given s) (bytes k) _ _ (le-of-lt (p .3)) (p .4)) in (
-      turn-choice (a .self) (a .zero) (given s) _ (p .3) dithers (p .2) _ own _ _ made,
-      turn-passed (a .self) (a .zero) (given s) _ (p .3) dithers (p .2) _ own _ _ made,
+    let dithers = skipped k _ (c .before .before .before .before .before .if1 .left) in
+    let own = c .before .before .before .before .source-at .ensures in
+    let called = c .before .diffusion-color-at .ensures in (
+      turn-choice (a .self) (a .zero) (given s) _ (p .3) dithers (p .2) _ own _ _ _ (p .4) (called .0),
+      turn-passed (a .self) (a .zero) (given s) _ (p .3) dithers (p .2) _ own _ _ _ (p .4) (called .0),
       called .1,
     )
 

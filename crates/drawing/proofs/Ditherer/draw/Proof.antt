@@ -13,7 +13,7 @@ use Rattle.drawing.proofs.Ditherer.draw.Tie as tie
 
 -- where the kind is asked, and what was answered
 abbrev start : tie.After-is-diffusion → tie.Start
-start c = c .before .before .before .before .before .before .before .before .before
+start c = c .before .before .before .before .before .before .before .before
 
 kind-is : (c : tie.After-is-diffusion) (t : Bool) → c .is-diffusion .result ≡ t → isDiffusion (start c .args .self .kind) ≡ t
 kind-is c t e = sym (c .is-diffusion .ensures) ∙ e
@@ -52,7 +52,7 @@ same-length-3 c = search needs
 
 returns : tie.Need-returns
 returns c =
-    let d = c .before .before .before .before .before .before in
+    let d = c .before .before .before .before .before in
     let k = d .before .before .before .before .before .before in
     let e = d .draw-diffused .ensures in
     (e .0, turn-end (picture (start k)) (kind-is k _ (d .before .before .before .before .before .if1 .taken)) _ _ (e .1), e .2)

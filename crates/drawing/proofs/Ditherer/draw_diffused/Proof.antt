@@ -27,10 +27,10 @@ abbrev μ-loop : tie.MeasureT-loop
 
 -- where the function began, from a turn of the loop
 abbrev start : tie.In-loop Inv-loop μ-loop → tie.Start Inv-loop μ-loop
-start c = c .before .before .before .before .before .before .before .before .before .before .before .before .before .before .before .before
+start c = c .before .before .before .before .before .before .before .before .before .before .before .before .before .before
 
-zero-floats-requires : tie.Need-zero-floats-requires Inv-loop μ-loop
-zero-floats-requires c κs = search needs
+zero-i16s-requires : tie.Need-zero-i16s-requires Inv-loop μ-loop
+zero-i16s-requires c κs = search needs
 
 cast-size : tie.Need-cast-size Inv-loop μ-loop
 cast-size c = search needs
@@ -43,8 +43,8 @@ mul-size c = search needs
 
 loop-holds : tie.Need-loop-holds Inv-loop μ-loop
 loop-holds c =
-    let p = c .before .before .before .before .before .before .before .before .before .before .before .before .before .before .pre in
-    (fill-begin 4 _ _, turn-begin _ _ _ (p .4) (c .before .before .before .before .zero-floats .ensures), p .5, note-begin _ _)
+    let p = c .before .before .before .before .before .before .before .before .before .before .before .before .pre in
+    (fill-begin 4 _ _, turn-begin _ _ _ (p .4) (c .before .before .before .zero-i16s .ensures), p .5, note-begin _ _)
 
 diffused-pixel-requires : tie.Need-diffused-pixel-requires Inv-loop μ-loop
 diffused-pixel-requires c κs =
@@ -54,7 +54,7 @@ diffused-pixel-requires c κs =
 
 put-rgba-requires : tie.Need-put-rgba-requires Inv-loop μ-loop
 put-rgba-requires c κs =
-    let l = c .before .before .before .before .before .before in
+    let l = c .before .before .before .before .before in
     omega (arith, l .before .loop .inv .0 .long, start l .pre .3, l .loop-test .taken)
 
 note-position-requires : tie.Need-note-position-requires Inv-loop μ-loop
@@ -62,17 +62,17 @@ note-position-requires c κs = search needs
 
 add-i : tie.Need-add-i Inv-loop μ-loop
 add-i c =
-    let l = c .before .before .before .before .before .before .before .before .before .before .before .before .before in
+    let l = c .before .before .before .before .before .before .before .before .before .before .before .before in
     omega (arith, start l .pre .1 .few, l .loop-test .taken)
 
 loop-less : tie.Need-loop-less Inv-loop μ-loop
-loop-less c = omega (arith, c .before .before .before .before .before .before .before .before .before .before .before .before .before .loop-test .taken)
+loop-less c = omega (arith, c .before .before .before .before .before .before .before .before .before .before .before .before .loop-test .taken)
 
 loop-again : tie.Need-loop-again Inv-loop μ-loop
 loop-again c =
     let put = c .before .before .before .before .before .before in
-    let chosen = put .before .before .before .before .diffused-pixel .ensures in
-    let l = put .before .before .before .before .before .before .before in
+    let chosen = put .before .before .before .diffused-pixel .ensures in
+    let l = put .before .before .before .before .before .before in
     let inv = l .before .loop .inv in (
       out-more _ _ _ _ (start l .pre .3) (inv .0) _ _ (l .loop-test .taken) (chosen .0 .color) (put .put-rgba .ensures),
       chosen .1,
@@ -89,13 +89,13 @@ same-length-2 c = c .before .loop .inv .0 .long
 same-length-3 : tie.Need-same-length-3 Inv-loop μ-loop
 same-length-3 c =
     let l = c .before .loop in
-    let p = c .before .before .before .before .before .before .before .before .before .before .before .before .before .before .before .before .pre in
+    let p = c .before .before .before .before .before .before .before .before .before .before .before .before .before .before .pre in
     turn-length _ _ _ (omega (arith, l .inv .0 .within, p .3)) (l .inv .1) ∙ sym (p .4)
 
 returns : tie.Need-returns Inv-loop μ-loop
 returns c =
     let l = c .before .loop in
-    let b = c .before .before .before .before .before .before .before .before .before .before .before .before .before .before .before .before in
+    let b = c .before .before .before .before .before .before .before .before .before .before .before .before .before .before in
     let p = b .pre in
     let e : l .i ≡ b .args .self .width * b .args .self .height = omega (arith, l .inv .0 .within, p .3, c .loop-test .left) in
     (out-all _ _ _ _ (p .3) (l .inv .0) (c .loop-test .left), l .inv .1 ∙ ap (cellsBefore _) e, note-done _ _ _ _ (l .inv .3) e)
@@ -106,7 +106,7 @@ draw-diffused-spec =
     (tie.spec
     Inv-loop
     μ-loop
-    zero-floats-requires
+    zero-i16s-requires
     cast-size
     cast-size-2
     mul-size

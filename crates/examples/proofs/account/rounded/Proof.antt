@@ -6,19 +6,16 @@ use Rattle.examples.proofs.account.rounded.Statement.{statement}
 use Rattle.examples.proofs.account.rounded.Tie as tie
 
 abbrev Inv-loop : tie.InvT-loop
-Inv-loop sum n₀ n = n ≤ 255
+Inv-loop sixteenths n₀ n = n ≤ 255
 
 abbrev μ-loop : tie.MeasureT-loop
-μ-loop sum n₀ n = 255 - n
+μ-loop sixteenths n₀ n = 255 - n
 
 loop-holds : tie.Need-loop-holds Inv-loop μ-loop
 loop-holds c = omega arith
 
-int-to-float-if1 : tie.Need-int-to-float-if1 Inv-loop μ-loop
-int-to-float-if1 c = search needs
-
-int-to-float-result : tie.Need-int-to-float-result Inv-loop μ-loop
-int-to-float-result c = search needs
+is-under-half-past-requires : tie.Need-is-under-half-past-requires Inv-loop μ-loop
+is-under-half-past-requires c κs = search needs
 
 returns : tie.Need-returns Inv-loop μ-loop
 returns c = search needs
@@ -42,8 +39,7 @@ rounded-spec =
     Inv-loop
     μ-loop
     loop-holds
-    int-to-float-if1
-    int-to-float-result
+    is-under-half-past-requires
     returns
     add-n
     loop-less
