@@ -80,7 +80,3 @@ module _ (w h i : ℕ) where
   weight-next j d [] m l e = absurd (not-suc-le-zero l)
   weight-next j d (t ∷ k) zero l e = omega (arith, part-there t j (ap (isAt i) e ∙ unfold isAt in eq-eqb i i refl))
   weight-next j d (t ∷ k) (suc m) l e = omega (arith, weight-next j d k m (le-of-suc-le-suc l) e)
-
-  pub weight-total : (k : List Target) (j : ℕ) → weightTo k w h j i ≤ total k
-  unfolding sumℕ
-  weight-total k j = omega (arith, weights-arrive k (suc j))

@@ -12,6 +12,7 @@ use lib.Ieee.{Float}
 use Rattle.replies.specs.Replies.{Reply, _if_, firstReply}
 use Rattle.replies.proofs.AnswerLaws.{answered}
 use Rattle.lists.specs.First.{firstThat}
+use Rattle.floats.specs.Over.{sixteenths}
 use Rattle.floats.specs.Bytes.{zeroF}
 use Rattle.picture.specs.Pixels.{isSeen}
 use Rattle.patterns.specs.Kinds.{isKind, isRetired}
@@ -28,7 +29,7 @@ use Rattle.dither.specs.Mode.{boundsWrong, lengthsWrong, budgetWrong, lengthsOf
 use Rattle.float_cells.specs.Arithmetic.{sixteenTimes}
 use Rattle.float_cells.specs.Drawn.{drawnF, errorF, Bytes}
 use Rattle.float_cells.specs.Calls.{BuffersF, withFloats, lengthsF, tileOverF, overBudgetF, repliesF, answerF, DitheredToModeF, SameDithered}
-use Rattle.float_cells.proofs.Drawn.{source-byte, scaled-byte, drawn-same, error-counts}
+use Rattle.float_cells.proofs.Drawn.{source-byte, scaled-byte, drawn-same, error-sixteenths, error-counts}
 use Rattle.float_cells.proofs.Shared.{row-changed, finished-same}
 
 module _ {q : Commission} {was then : Buffers} {floats₀ : List Float} {then′ : BuffersF} {r s : Dithered} (x : DitheredToMode q was r then)
@@ -104,9 +105,19 @@ module _ {q : Commission} {was then : Buffers} {floats₀ : List Float} {then′
       with-floats : Bool → ℕ
       with-floats over = firstReply (front ++ 3 if wrong ∷ behind over)
 
+  -- ---- what acceptance leaves in the cells
+  left-cells : numberOf r ≡ 0 → then .cells ≡ cellsAfter d (was .cells)
+  unfolding cellsLeft
+  left-cells accepted =
+      x .cell-buffer ∙ ap (λ (n : ℕ). leaves n (cellsAfter d (was .cells)) (replicate (length (was .cells)) (pos 0)) (was .cells)) accepted
+
+  left-floats : r ≡ s → numberOf r ≡ 0 → then′ .cells ≡ errorF d floats₀
+  left-floats e accepted =
+      y .cell-buffer ∙ ap (λ (n : ℕ). leaves n (errorF d floats₀) (replicate (length floats₀) zeroF) floats₀) (ap numberOf (sym e) ∙ accepted)
+
   -- ---- one picture
   results : r ≡ s → SameDithered q r s then then′
-  unfolding outAfter cellsLeft
+  unfolding outAfter
   results e = record {
     answer = e;
     candidate-places = x .candidate-places ∙ ap (λ (a : Dithered). placesAfter q (was .places) (numberOf a)) e ∙ sym (y .candidate-places);
@@ -116,10 +127,13 @@ module _ {q : Commission} {was then : Buffers} {floats₀ : List Float} {then′
         ∙ (λ t. leaves (numberOf (e t)) (finished-same d same t) (replicate (length (was .out)) 0) (was .out))
         ∙ sym (y .picture);
     cell-buffer = λ accepted k.
-        let there : numberOf s ≡ 0 = ap numberOf (sym e) ∙ accepted in
-        ap (map sixteenTimes) (y .cell-buffer ∙ ap (λ (n : ℕ). leaves n (errorF d floats₀) (replicate (length floats₀) zeroF) floats₀) there)
+        ap (map sixteenTimes) (left-floats e accepted)
         ∙ error-counts d (source-byte (q .pixels) pixels) (scaled-byte (q .scale) scale) k floats₀ (was .cells)
-        ∙ sym (x .cell-buffer ∙ ap (λ (n : ℕ). leaves n (cellsAfter d (was .cells)) (replicate (length (was .cells)) (pos 0)) (was .cells)) accepted);
+        ∙ sym (left-cells accepted);
+    exact = λ accepted k.
+        left-floats e accepted
+        ∙ error-sixteenths d (source-byte (q .pixels) pixels) (scaled-byte (q .scale) scale) k floats₀ (was .cells)
+        ∙ ap (map sixteenths) (sym (left-cells accepted));
   }
 
   pub dither-same : length (was .cells) ≡ length floats₀ → SameDithered q r s then then′

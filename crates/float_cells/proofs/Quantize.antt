@@ -9,6 +9,7 @@ use lib.ListN.{length}
 use lib.Ieee.{Float}
 use Rattle.replies.specs.Replies.{Reply, _if_, firstReply, after}
 use Rattle.replies.proofs.AnswerLaws.{answered}
+use Rattle.floats.specs.Over.{sixteenths}
 use Rattle.picture.specs.Bounds.{sizeWrong}
 use Rattle.patterns.specs.Kinds.{isKind, isRetired}
 use Rattle.mixing.specs.Widths.{isShift}
@@ -19,7 +20,7 @@ use Rattle.quantize.specs.Quantize.{Commission, Quantized, quantizing, entries,
 use Rattle.float_cells.specs.Arithmetic.{sixteenTimes}
 use Rattle.float_cells.specs.Drawn.{drawnF, errorF, Bytes}
 use Rattle.float_cells.specs.Calls.{QuantizedF, SameQuantized}
-use Rattle.float_cells.proofs.Drawn.{source-byte, scaled-byte, drawn-same, error-counts}
+use Rattle.float_cells.proofs.Drawn.{source-byte, scaled-byte, drawn-same, error-sixteenths, error-counts}
 use Rattle.float_cells.proofs.Shared.{row-changed, finished-same, index-same}
 
 module _ {q : Commission} {indices₀ out₀ : List ℕ} {cells₀ : List ℤ} {floats₀ : List Float} {r s : Quantization}
@@ -70,6 +71,13 @@ module _ {q : Commission} {indices₀ out₀ : List ℕ} {cells₀ : List ℤ} {
     same : (i : ℕ) → i < d .width * d .height → drawnF d i ≡ drawn d i
     same = drawn-same d (source-byte (q .pixels) pixels) (scaled-byte (q .scale) scale)
 
+    -- what acceptance leaves in the cells
+    left-cells : numberOf r ≡ 0 → cells ≡ cellsAfter d cells₀
+    left-cells accepted = x .cell-buffer ∙ ap (λ (n : ℕ). after n (cellsAfter d cells₀) cells₀) accepted
+
+    left-floats : r ≡ s → numberOf r ≡ 0 → floats ≡ errorF d floats₀
+    left-floats e accepted = y .cell-buffer ∙ ap (λ (n : ℕ). after n (errorF d floats₀) floats₀) (ap numberOf (sym e) ∙ accepted)
+
     results : r ≡ s → SameQuantized q r s indices indices′ out out′ cells floats
     results e = record {
       answer = e;
@@ -77,10 +85,13 @@ module _ {q : Commission} {indices₀ out₀ : List ℕ} {cells₀ : List ℤ} {
           x .index-buffer ∙ (λ t. after (numberOf (e t)) (index-same d same (q .palette) (entries q) t) indices₀) ∙ sym (y .index-buffer);
       picture = x .picture ∙ (λ t. after (numberOf (e t)) (finished-same d same t) out₀) ∙ sym (y .picture);
       cell-buffer = λ accepted k.
-          let there : numberOf s ≡ 0 = ap numberOf (sym e) ∙ accepted in
-          ap (map sixteenTimes) (y .cell-buffer ∙ ap (λ (n : ℕ). after n (errorF d floats₀) floats₀) there)
+          ap (map sixteenTimes) (left-floats e accepted)
           ∙ error-counts d (source-byte (q .pixels) pixels) (scaled-byte (q .scale) scale) k floats₀ cells₀
-          ∙ sym (x .cell-buffer ∙ ap (λ (n : ℕ). after n (cellsAfter d cells₀) cells₀) accepted);
+          ∙ sym (left-cells accepted);
+      exact = λ accepted k.
+          left-floats e accepted
+          ∙ error-sixteenths d (source-byte (q .pixels) pixels) (scaled-byte (q .scale) scale) k floats₀ cells₀
+          ∙ ap (map sixteenths) (sym (left-cells accepted));
     }
 
     pub quantize-same : length cells₀ ≡ length floats₀ → SameQuantized q r s indices indices′ out out′ cells floats

@@ -11,6 +11,7 @@ use lib.ListN.{length, replicate}
 use lib.Ieee.{Float}
 use Rattle.replies.specs.Replies.{Reply, _if_, after}
 use Rattle.replies.specs.Answers.{Answers}
+use Rattle.floats.specs.Over.{sixteenths}
 use Rattle.floats.specs.Bytes.{zeroF}
 use Rattle.picture.specs.Pixels.{isSeen}
 use Rattle.patterns.specs.Kinds.{isDiffusion}
@@ -40,12 +41,13 @@ pub record QuantizedF (q : quantize.Commission) (indices₀ out₀ : List ℕ) (
       ≡ after (quantize.numberOf r) (finishedBytes (quantizing q .normalize) (quantizing q .reduced) (drawnF (quantizing q)) (quantize.size q)) out₀
   pub cell-buffer : cells ≡ after (quantize.numberOf r) (errorF (quantizing q) cells₀) cells₀
 
--- a result with sixteenths and one with floats: one answer, one picture, and sixteen times the floats are the sixteenths
+-- a result with sixteenths and one with floats: one answer, one picture; sixteen times the floats are the sixteenths, and the floats are these exactly
 pub record SameQuantized (q : quantize.Commission) (r s : Quantization) (indices indices′ out out′ : List ℕ) (cells : List ℤ) (floats : List Float) : Type 0 where
   pub answer : r ≡ s
   pub index-buffer : indices ≡ indices′
   pub picture : out ≡ out′
   pub cell-buffer : quantize.numberOf r ≡ 0 → isDiffusion (q .kind) ≡ true → map sixteenTimes floats ≡ cells
+  pub exact : quantize.numberOf r ≡ 0 → isDiffusion (q .kind) ≡ true → floats ≡ map sixteenths cells
 
 -- ---- `dither_to_mode`
 -- what the caller lends to be written
@@ -103,3 +105,4 @@ pub record SameDithered (q : mode.Commission) (r s : Dithered) (then : mode.Buff
   pub candidate-oklab : then .oklab ≡ then′ .oklab
   pub picture : then .out ≡ then′ .out
   pub cell-buffer : mode.numberOf r ≡ 0 → isDiffusion (q .settings .kind) ≡ true → map sixteenTimes (then′ .cells) ≡ then .cells
+  pub exact : mode.numberOf r ≡ 0 → isDiffusion (q .settings .kind) ≡ true → then′ .cells ≡ map sixteenths (then .cells)
