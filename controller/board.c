@@ -1,6 +1,7 @@
 /*
  * The driver on the board: start-up, and files and printing by semihosting, by which the emulator does what the program asks of
- * it. At the end the file `stack` gets a line a call: its name, the most bytes of stack that it wrote, how often it was made.
+ * it. At the end the file `stack` gets a line a call, or a call's reduction: its name, the most bytes of stack that it wrote,
+ * how often it was made.
  */
 #include <string.h>
 
@@ -75,7 +76,8 @@ void keep(const void *bytes, size_t len)
 /* ---- the stack's table */
 
 #define NAME(name) #name,
-static const char *const names[] = {EACH_CALL(NAME)};
+#define NAMES(name) #name, #name ":grey", #name ":opaque_colour",
+static const char *const names[] = {EACH_CALL(NAME, NAMES)};
 
 extern const uint32_t stack_most[], stack_calls[];
 

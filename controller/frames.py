@@ -6,8 +6,9 @@ PROGRAM is the linked program, whose instructions are followed by arm-none-eabi-
 along every branch, with how far the stack pointer is below where it was; a call adds what the called function needs. So the
 functions of libgcc and of the C library count as the library's own do. REPORT is the compiler's (-fstack-usage); every frame
 in it has to be the one that the instructions make. The calls are those of HEADER, the C header, which says what goes over the
-stack as arguments, or the functions that are named. STACK is what the board measured; nothing there may be above what is
-worked out here. Fails where something does not fit, or where a call needs more than its bound.
+stack as arguments, or the functions that are named. STACK is what the board measured, of a call on pictures by its reduction,
+too; nothing there may be above what is worked out here. Fails where something does not fit, or where a call needs more than
+its bound.
 """
 
 import argparse
@@ -198,6 +199,12 @@ def way_of(path):
     return ", ".join(f"`{name}`" + (f" {LEVELS[name]} times" if name in LEVELS else "") for name, _ in path[1:])
 
 
+def rows_of(measured, name):
+    """What the board measured of a call, by its reduction; that of a call that has none is ""."""
+    parts = [(line.partition(":"), most) for line, most in measured.items()]
+    return {reduction: most for (call, _, reduction), most in parts if call == name}
+
+
 def calls_table(stack, calls, measured):
     """The table of the calls, each with what goes over the stack as arguments, where that is known. Answers what is wrong."""
     wrong = []
@@ -206,12 +213,16 @@ def calls_table(stack, calls, measured):
     for name, passed in calls:
         need = stack.of(stack.listing.starts[name])
         whole = need.depth + (passed or 0)
-        cells = [need.frame, need.depth, passed, None if passed is None else whole, measured.get(name)]
+        written = rows_of(measured, name)
+        most = max(written.values(), default=None)
+        cells = [need.frame, need.depth, passed, None if passed is None else whole, most]
         row([f"`{name}`"] + ["-" if cell is None else f"{cell:,}" for cell in cells] + [way_of(need.path)])
+        for reduction in filter(None, written):
+            row([f"in {reduction.replace('_', ' ')}"] + ["-"] * 4 + [f"{written[reduction]:,}", ""])
         bound = LOOKUP_BOUND if re.sub("^(badge|records)_", "", name) in LOOKUPS else BOUND
         if whole > bound and name != NO_CALL:
             wrong.append(f"{name} needs more than {bound:,} bytes")
-        if measured.get(name, 0) > need.depth:
+        if (most or 0) > need.depth:
             wrong.append(f"{name} wrote more than is worked out")
     return wrong
 

@@ -1,7 +1,7 @@
 /*
- * Calls with larger inputs than the recorded list has: pictures of 64x64 in every kind but the retired ones, 65,536 candidates
- * and lookups over them, PAM files. Nothing is recorded for them: each must have its number here, and every answer is kept, so
- * that the board's are compared with the host's.
+ * Calls with larger inputs than the recorded list has: pictures of 64x64 in every kind but the retired ones, some in each
+ * reduction, 65,536 candidates and lookups over them, PAM files. Nothing is recorded for them: each must have its number here,
+ * and every answer is kept, so that the board's are compared with the host's.
  */
 #include <string.h>
 
@@ -13,8 +13,8 @@ enum { SIDE = 64, PIXELS = SIDE * SIDE, ENTRIES = 65536 };
 
 /* ---- what is lent */
 
-static uint8_t reduction[256], scale[256], palette[4 * 256], pixels[4 * ENTRIES], indices[PIXELS], out[4 * PIXELS];
-static uint8_t places[4 * ENTRIES], file[4 * PIXELS + 128];
+static uint8_t reduction[256], scale[256], palette[4 * 256], pixels[4 * ENTRIES], opaque[4 * PIXELS];
+static uint8_t indices[PIXELS], out[4 * PIXELS], places[4 * ENTRIES], file[4 * PIXELS + 128];
 static float oklab[3 * ENTRIES];
 static int16_t cells[3 * PIXELS];
 
@@ -30,16 +30,18 @@ static uint8_t random_byte(void)
 static void make_tables(unsigned shift)
 {
     for (unsigned v = 0; v < 256; v++) {
-        const unsigned scaled[] = {v << 3 | v >> 2, v << 4 | v, v << 5 | v << 2 | v >> 1 | v >> 4};
+        const unsigned scaled[] = {v << 3 | v >> 2, v << 4 | v, v << 5 | v << 2 | v >> 1 | v >> 4,
+                                   v << 6 | v << 4 | v << 2 | v};
         reduction[v] = (uint8_t)(v >> shift);
         scale[v] = (uint8_t)scaled[shift - 3];
     }
 }
 
-static void make_palette(unsigned shift)
+/* Any colours, or the greys from black on. */
+static void make_palette(unsigned shift, bool greys)
 {
     for (size_t i = 0; i < sizeof palette; i++)
-        palette[i] = i % 4 == 3 ? 255 : random_byte() >> shift;
+        palette[i] = i % 4 == 3 ? 255 : greys ? (uint8_t)(i / 4) : random_byte() >> shift;
 }
 
 /* A picture: a gradient, or noise with one pixel of eight transparent, or noise of twelve colours. */
@@ -52,6 +54,15 @@ static void make_pixels(unsigned picture)
         p[2] = picture == 0 ? (uint8_t)((i % SIDE + i / SIDE) * 2) : picture == 1 ? random_byte() : few / 2;
         p[3] = picture == 1 && alpha < 32 ? alpha : 255;
     }
+}
+
+/* The original's opaque_threshold of each pixel. */
+static void make_opaque(void)
+{
+    memset(opaque, 0, sizeof opaque);
+    for (size_t i = 0; i < sizeof opaque; i += 4)
+        if (pixels[i + 3] >= 128)
+            memcpy(opaque + i, pixels + i, 4);
 }
 
 static void make_rubbish(void)
@@ -100,25 +111,56 @@ static size_t cells_of(uint32_t kind)
     return kind >= BADGE_ATKINSON ? 3 * PIXELS : 0;
 }
 
-static void quantize(uint32_t shift, uint32_t kind, size_t entries)
+/* The pictures, each in a mode's shift and reduction, and how many entries its palette has. */
+typedef struct {
+    unsigned picture;
+    uint32_t shift, reducing;
+    size_t entries;
+} Setting;
+
+static const Setting settings[] = {
+    {0, 3, BADGE_BY_ALPHA, 256}, {1, 4, BADGE_BY_ALPHA, 256}, {2, 5, BADGE_BY_ALPHA, 16},
+    {0, 5, BADGE_GREY, 8},       {1, 6, BADGE_GREY, 4},       {1, 6, BADGE_OPAQUE_COLOR, 64},
+};
+
+enum { SETTINGS = sizeof settings / sizeof settings[0] };
+
+static size_t opaque_of(const Setting *s)
+{
+    return s->reducing != BADGE_BY_ALPHA ? sizeof opaque : 0;
+}
+
+static void with_setting(const Setting *s)
+{
+    make_tables(s->shift);
+    make_palette(s->shift, s->reducing == BADGE_GREY);
+    make_pixels(s->picture);
+    make_opaque();
+}
+
+static void quantize(const Setting *s, uint32_t kind)
 {
     make_rubbish();
-    number(badge_quantize_pixels(shift, kind, SIDE, SIDE, TABLES, palette, 4 * entries, pixels, 4 * PIXELS, indices, PIXELS,
-                                 out, 4 * PIXELS, cells, cells_of(kind)),
+    number(badge_quantize_pixels(s->shift, s->reducing, kind, SIDE, SIDE, TABLES, palette, 4 * s->entries, pixels, 4 * PIXELS,
+                                 opaque, opaque_of(s), indices, PIXELS, out, 4 * PIXELS, cells, cells_of(kind)),
            BADGE_ACCEPTED);
     keep(indices, sizeof indices);
     keep(out, sizeof out);
     keep(cells, sizeof cells);
 }
 
-/* A limit of 256 is within any tile of 16x16, one of 2 is not. */
-static void dither(uint32_t shift, uint32_t kind, uint32_t limit, uint32_t wanted)
+/* A limit of 256 is within any tile of 16x16, one of 2 is not. Colour zero is the first pixel's, or black, which opaque pixels
+ * have where a pixel is transparent. */
+static void dither(const Setting *s, uint32_t kind, uint32_t limit, uint32_t wanted)
 {
+    static const uint8_t black[3];
+    const uint8_t *zero = s->reducing == BADGE_BY_ALPHA ? pixels : black;
     uint32_t counted = 0, tile = 0;
     make_rubbish();
-    number(badge_dither_to_mode(shift, kind, SIDE, SIDE, 3, 5, 16, 16, limit, 1, reduction[pixels[0]], reduction[pixels[1]],
-                                reduction[pixels[2]], 255, TABLES, pixels, 4 * PIXELS, places, 4 * PIXELS, oklab, 3 * PIXELS,
-                                out, 4 * PIXELS, cells, cells_of(kind), &counted, &tile),
+    number(badge_dither_to_mode(s->shift, s->reducing, kind, SIDE, SIDE, 3, 5, 16, 16, limit, 1, reduction[zero[0]],
+                                reduction[zero[1]], reduction[zero[2]], 255, TABLES, pixels, 4 * PIXELS, opaque, opaque_of(s),
+                                places, 4 * PIXELS, oklab, 3 * PIXELS, out, 4 * PIXELS, cells, cells_of(kind), &counted,
+                                &tile),
            wanted);
     keep(&counted, 4);
     keep(&tile, 4);
@@ -128,42 +170,36 @@ static void dither(uint32_t shift, uint32_t kind, uint32_t limit, uint32_t wante
     keep(cells, sizeof cells);
 }
 
-/* Each picture has another shift. */
-static void with_picture(unsigned picture)
-{
-    make_tables(3 + picture);
-    make_palette(3 + picture);
-    make_pixels(picture);
-}
-
 static void quantize_pictures(void)
 {
-    for (unsigned picture = 0; picture < 3; picture++) {
-        with_picture(picture);
+    for (const Setting *s = settings; s < settings + SETTINGS; s++) {
+        with_setting(s);
         for (size_t k = 0; k < KINDS; k++)
-            quantize(3 + picture, kinds[k], picture == 2 ? 16 : 256);
+            quantize(s, kinds[k]);
     }
     tell("quantize_pixels_64x64");
 }
 
 static void dither_pictures(void)
 {
-    for (unsigned picture = 0; picture < 3; picture++) {
-        with_picture(picture);
+    for (const Setting *s = settings; s < settings + SETTINGS; s++) {
+        with_setting(s);
         for (size_t k = 0; k < KINDS; k++)
-            dither(3 + picture, kinds[k], 256, BADGE_ACCEPTED);
-        dither(3 + picture, BADGE_FLOYD_STEINBERG, 2, BADGE_REFUSED_TILE_OVER);
+            dither(s, kinds[k], 256, BADGE_ACCEPTED);
+        dither(s, BADGE_FLOYD_STEINBERG, 2, BADGE_REFUSED_TILE_OVER);
     }
     tell("dither_to_mode_64x64");
 }
 
 /* ---- the longest lists: as many candidates as there can be, and lookups over them */
 
-static void collect(uint32_t entries, uint32_t wanted)
+/* The opaque pixels are the pixels themselves, where the reduction takes any. */
+static void collect(uint32_t shift, uint32_t reducing, uint32_t entries, uint32_t wanted)
 {
     uint32_t counted = 0;
     make_rubbish();
-    number(badge_candidate_colors_in(3, 256, 256, TABLES, pixels, 4 * ENTRIES, places, 4 * entries, oklab, 3 * entries,
+    number(badge_candidate_colors_in(shift, reducing, 256, 256, TABLES, pixels, 4 * ENTRIES, pixels,
+                                     reducing != BADGE_BY_ALPHA ? 4 * ENTRIES : 0, places, 4 * entries, oklab, 3 * entries,
                                      &counted),
            wanted);
     keep(&counted, 4);
@@ -180,8 +216,9 @@ static void collect_all(void)
         uint8_t *p = pixels + 4 * i;
         p[0] = (uint8_t)i, p[1] = (uint8_t)(i >> 8), p[2] = random_byte(), p[3] = 255;
     }
-    collect(ENTRIES - 1, BADGE_REFUSED_TOO_MANY_CANDIDATES);
-    collect(ENTRIES, BADGE_ACCEPTED);
+    collect(6, BADGE_GREY, 256, BADGE_ACCEPTED);
+    collect(3, BADGE_BY_ALPHA, ENTRIES - 1, BADGE_REFUSED_TOO_MANY_CANDIDATES);
+    collect(3, BADGE_BY_ALPHA, ENTRIES, BADGE_ACCEPTED);
     tell("candidate_colors_in_65536");
 }
 

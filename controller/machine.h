@@ -8,7 +8,7 @@
 #include <stddef.h>
 #include <stdint.h>
 
-enum { LIST_ROOM = 512 * 1024 };
+enum { LIST_ROOM = 640 * 1024 };
 
 /* Reads the file `list` into a room of LIST_ROOM bytes. Answers how many bytes it has; 0 where there are none or too many. */
 size_t read_list(uint8_t *room);

@@ -58,29 +58,37 @@ measured:
     bx      lr
 
     .set    number, 0
-    .macro  way name
+/* A call with so many rows, of which the second argument chooses one; the first where it is above them. */
+    .macro  way name, rows
     .global __wrap_\name
     .thumb_func
 __wrap_\name:
     ldr     ip, =registers
     stm     ip, {r4, r5, r6, r7, lr}
+    str     r1, [ip, #20]
     bl      paint
     ldr     ip, =registers
     ldm     ip, {r4, r5, r6, r7}
     bl      __real_\name
     movs    r2, #number
+    ldr     ip, =registers
+    ldr     r1, [ip, #20]
+    cmp     r1, #\rows
+    it      lo
+    addlo   r2, r1
     b       measured
-    .set    number, number + 1
+    .set    number, number + \rows
     .ltorg
     .endm
 
-#define WAY(name) way name;
-EACH_CALL(WAY)
+#define WAY(name) way name, 1;
+#define WAYS(name) way name, 3;
+EACH_CALL(WAY, WAYS)
 
     .bss
     .balign 4
 registers:
-    .space  20
+    .space  24
 turn:
     .space  4
     .global stack_most

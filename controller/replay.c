@@ -245,44 +245,45 @@ static void ordered_bracket(void)
 
 /* ---- pictures; the tables are the first two tokens */
 
-#define TABLES part(0).bytes, part(0).len, part(1).bytes, part(1).len
+#define BYTES_OF(k) part(k).bytes, part(k).len
+#define TABLES BYTES_OF(0), BYTES_OF(1)
 
-/* c: reduction scale shift width height pixels places oklab | number count places oklab */
+/* c: reduction scale shift reducing width height pixels opaque places oklab | number count places oklab */
 static void candidate_colors_in(void)
 {
     uint32_t count = BEFORE;
-    size_t places_len = lend_bytes(6, places), oklab_len = lend_floats(7, oklab);
-    expect_number(badge_candidate_colors_in(word(2), word(3), word(4), TABLES, part(5).bytes, part(5).len, places, places_len,
-                                            oklab, oklab_len, &count));
+    size_t places_len = lend_bytes(8, places), oklab_len = lend_floats(9, oklab);
+    expect_number(badge_candidate_colors_in(word(2), word(3), word(4), word(5), TABLES, BYTES_OF(6), BYTES_OF(7), places,
+                                            places_len, oklab, oklab_len, &count));
     expect_word(count, accepted);
     expect(places, places_len);
     expect_floats(oklab, oklab_len);
 }
 
-/* q: reduction scale shift kind width height palette pixels indices out cells | number indices out cells */
+/* q: reduction scale shift reducing kind width height palette pixels opaque indices out cells | number indices out cells */
 static void quantize_pixels(void)
 {
-    size_t indices_len = lend_bytes(8, indices), out_len = lend_bytes(9, out), cells_len = lend_cells(10);
-    expect_number(badge_quantize_pixels(word(2), word(3), word(4), word(5), TABLES, part(6).bytes, part(6).len, part(7).bytes,
-                                        part(7).len, indices, indices_len, out, out_len, cells, cells_len));
+    size_t indices_len = lend_bytes(10, indices), out_len = lend_bytes(11, out), cells_len = lend_cells(12);
+    expect_number(badge_quantize_pixels(word(2), word(3), word(4), word(5), word(6), TABLES, BYTES_OF(7), BYTES_OF(8),
+                                        BYTES_OF(9), indices, indices_len, out, out_len, cells, cells_len));
     expect(indices, indices_len);
     expect(out, out_len);
     expect_cells(cells, cells_len);
 }
 
 /*
- * x: reduction scale shift kind width height origin_x origin_y tile_width tile_height limit has_zero zero pixels places oklab
- * out cells | number count tile places oklab out cells
+ * x: reduction scale shift reducing kind width height origin_x origin_y tile_width tile_height limit has_zero zero pixels
+ * opaque places oklab out cells | number count tile places oklab out cells
  */
 static void dither_to_mode(void)
 {
     uint32_t count = BEFORE, tile = BEFORE;
-    size_t places_len = lend_bytes(14, places), oklab_len = lend_floats(15, oklab);
-    size_t out_len = lend_bytes(16, out), cells_len = lend_cells(17);
+    size_t places_len = lend_bytes(16, places), oklab_len = lend_floats(17, oklab);
+    size_t out_len = lend_bytes(18, out), cells_len = lend_cells(19);
     uint32_t n = badge_dither_to_mode(word(2), word(3), word(4), word(5), word(6), word(7), word(8), word(9), word(10),
-                                      word(11), byte_of(12, 0), byte_of(12, 1), byte_of(12, 2), byte_of(12, 3), TABLES,
-                                      part(13).bytes, part(13).len, places, places_len, oklab, oklab_len, out, out_len, cells,
-                                      cells_len, &count, &tile);
+                                      word(11), word(12), byte_of(13, 0), byte_of(13, 1), byte_of(13, 2), byte_of(13, 3),
+                                      TABLES, BYTES_OF(14), BYTES_OF(15), places, places_len, oklab, oklab_len, out, out_len,
+                                      cells, cells_len, &count, &tile);
     expect_number(n);
     expect_word(count, accepted || n == BADGE_REFUSED_TILE_OVER);
     expect_word(tile, n == BADGE_REFUSED_TILE_OVER);
@@ -307,9 +308,9 @@ static const struct {
     {'n', 6, 4, nearest},
     {'m', 8, 5, nearest_two},
     {'b', 11, 5, ordered_bracket},
-    {'c', 12, 8, candidate_colors_in},
-    {'q', 15, 11, quantize_pixels},
-    {'x', 25, 18, dither_to_mode},
+    {'c', 14, 10, candidate_colors_in},
+    {'q', 17, 13, quantize_pixels},
+    {'x', 27, 20, dither_to_mode},
     /* The cases of the lookups over records have the form of the flat ones, which answer them here. */
     {'N', 6, 4, nearest},
     {'M', 8, 5, nearest_two},

@@ -117,6 +117,18 @@ void lent_remember(void)
     }
 }
 
+void lent_again(void)
+{
+    for (size_t i = 0; i < used; i++) {
+        uint8_t *now = lents[i].fill, *was = lents[i].was;
+        for (size_t k = 0; k < lents[i].bytes; k++) {
+            uint8_t left = now[k];
+            now[k] = was[k];
+            was[k] = left;
+        }
+    }
+}
+
 void lent_return(void)
 {
     for (size_t i = 0; i < used; i++) {

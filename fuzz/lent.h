@@ -30,6 +30,10 @@ Lent *lend_to_write(size_t len, size_t size);
 /* Copies all that is lent, as it stands before the call. */
 void lent_remember(void);
 
+/* Puts all that is lent back as it stood before a call, so that the call can be made again. What the first one left is
+ * remembered in its place: what is unchanged then is what both of them left. */
+void lent_again(void);
+
 /* Frees all that is lent. */
 void lent_return(void);
 

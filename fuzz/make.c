@@ -1,6 +1,8 @@
 /* Arbitrary arguments. See make.h. */
 #include "make.h"
 
+#include <string.h>
+
 #include "random.h"
 #include "table.h"
 
@@ -20,8 +22,24 @@ uint32_t make_kind(void)
 uint32_t make_shift(void)
 {
     if (once_in(25))
-        return once_in(2) ? (once_in(2) ? 2 : 6) : (uint32_t)random_bits();
-    return 3 + (uint32_t)below(3);
+        return once_in(2) ? (once_in(2) ? 2 : 7) : (uint32_t)random_bits();
+    return 3 + (uint32_t)below(4);
+}
+
+static uint32_t make_reducing(void)
+{
+    if (once_in(4)) /* often enough to meet all that may be wrong besides */
+        return once_in(2) ? BADGE_OPAQUE_COLOR + 1 : (uint32_t)random_bits();
+    return (uint32_t)below(3);
+}
+
+Pairing make_pairing(void)
+{
+    static const Pairing right[] = {{3, BADGE_BY_ALPHA}, {4, BADGE_BY_ALPHA}, {5, BADGE_BY_ALPHA},
+                                    {5, BADGE_GREY},     {6, BADGE_GREY},     {6, BADGE_OPAQUE_COLOR}};
+    if (once_in(10))
+        return (Pairing){make_shift(), make_reducing()};
+    return right[below(sizeof right / sizeof right[0])];
 }
 
 uint32_t make_place(void)
@@ -184,18 +202,47 @@ Lent *make_pixels(size_t pixels)
     return lent;
 }
 
-/* Entries that the reduction gives, entries again and again, transparent ones, or rubbish. */
+/* What the original takes for the opaque pixels: the pixel, or four zeros where it is transparent. */
+static void fill_threshold(const Lent *opaque, const Lent *pixels)
+{
+    uint8_t *to = opaque->fill;
+    const uint8_t *from = pixels->fill;
+    for (size_t i = 0; i + 4 <= opaque->len && i + 4 <= pixels->len; i += 4)
+        memcpy(to + i, from[i + 3] < 128 ? (const uint8_t[4]){0} : from + i, 4);
+}
+
+/* The original's, another picture, or bytes of any sort; the pixels themselves, since both are only read; and now and again as
+ * many as another reduction takes. */
+Lent *make_opaque(uint32_t reducing, size_t count, Lent *pixels)
+{
+    bool other = once_in(40);
+    if ((reducing == BADGE_BY_ALPHA) == other && once_in(8))
+        return pixels;
+    size_t right = opaque_length(reducing, count);
+    if (other)
+        right = right == 0 ? 4 * count : 0;
+    if (once_in(4))
+        return make_pixels(right / 4);
+    Lent *opaque = lend_to_read(make_length(right), 1);
+    if (once_in(2))
+        fill_threshold(opaque, pixels);
+    return opaque;
+}
+
+/* Entries that the reduction gives, all of them grey at times, entries again and again, transparent ones, or rubbish. */
 Lent *make_palette(const Lent *reduction)
 {
     Lent *palette = lend_to_read(make_length(4 * make_entries(256)), 1);
     const uint8_t *table = reduction->fill;
     uint8_t *bytes = palette->fill;
-    bool rubbish = once_in(6), twins = once_in(4);
+    bool rubbish = once_in(6), twins = once_in(4), greys = once_in(4);
     for (size_t i = 0; i < palette->len && !rubbish; i++) {
         if (twins && i >= 4 && once_in(2))
             bytes[i] = bytes[i - 4];
         else if (i % 4 == 3)
             bytes[i] = once_in(20) ? 0 : 255;
+        else if (greys && i % 4 != 0)
+            bytes[i] = bytes[i - 1];
         else if (reduction->len != 0)
             bytes[i] = table[below(reduction->len)];
     }

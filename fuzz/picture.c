@@ -11,25 +11,68 @@
 
 Picture make_picture(void)
 {
-    Picture p = {.shift = make_shift(), .size = make_size()};
+    Pairing pairing = make_pairing();
+    Picture p = {.shift = pairing.shift, .reducing = pairing.reducing, .size = make_size()};
     p.reduction = make_reduction(p.shift);
     p.scale = make_scale(p.shift);
     p.pixels = make_pixels(p.size.pixels);
+    p.opaque = make_opaque(p.reducing, p.size.pixels, p.pixels);
     return p;
 }
 
 bool picture_wrong(const Picture *p)
 {
-    return p->reduction->len != 256 || p->scale->len != 256
-           || p->pixels->len != (size_t)4 * p->size.width * p->size.height;
+    size_t pixels = (size_t)p->size.width * p->size.height;
+    return p->reduction->len != 256 || p->scale->len != 256 || p->pixels->len != 4 * pixels
+           || p->opaque->len != opaque_length(p->reducing, pixels);
+}
+
+/* The original's luma_u8. A step is a statement, so that the compiler rounds each. */
+static uint8_t luma_u8(const uint8_t *c)
+{
+    float r = (float)c[0] / 255.0f, g = (float)c[1] / 255.0f, b = (float)c[2] / 255.0f;
+    float red = r * 0.2126f, green = g * 0.7152f, blue = b * 0.0722f;
+    float two = red + green;
+    float all = two + blue;
+    float luma = all * 255.0f;
+    return luma > 255.0f ? 255 : (uint8_t)luma;
 }
 
 uint32_t reduced_key(const Picture *p, size_t pixel)
 {
     const uint8_t *c = (uint8_t *)p->pixels->fill + 4 * pixel, *table = p->reduction->fill;
-    if (c[3] < 128)
+    if (p->reducing == BADGE_BY_ALPHA && c[3] < 128)
         return 0;
+    if (p->reducing != BADGE_BY_ALPHA)
+        c = (uint8_t *)p->opaque->fill + 4 * pixel;
+    if (p->reducing == BADGE_GREY)
+        return table[luma_u8(c)] * 0x01010100u | 255;
     return (uint32_t)table[c[0]] << 24 | (uint32_t)table[c[1]] << 16 | (uint32_t)table[c[2]] << 8 | 255;
+}
+
+Color color_of(uint32_t key)
+{
+    return (Color){{(uint8_t)(key >> 24), (uint8_t)(key >> 16), (uint8_t)(key >> 8), (uint8_t)key}};
+}
+
+/* Other alphas, each on its side of 128 where that is to stay. */
+static void change_alphas_of(const Lent *pixels, bool side)
+{
+    uint8_t *bytes = pixels->fill;
+    for (size_t i = 3; i < pixels->len; i += 4)
+        bytes[i] = side ? (bytes[i] & 128) | (random_byte() & 127) : random_byte();
+}
+
+void change_alphas(const Picture *p)
+{
+    lent_again();
+    change_alphas_of(p->pixels, p->reducing == BADGE_BY_ALPHA);
+    change_alphas_of(p->opaque, false);
+}
+
+void check_again(const Picture *p, uint32_t number, uint32_t again)
+{
+    check(again == number && unchanged_but(NAMED(p->pixels, p->opaque)), "an alpha that plays no part");
 }
 
 static int by_number(const void *a, const void *b)
@@ -78,11 +121,10 @@ void check_rooms(const Rooms *rooms, const Lent *scale)
     const uint8_t *places = rooms->places->fill, *table = scale->fill;
     const float *oklab = rooms->oklab->fill;
     for (size_t i = 0; i < rooms->count; i++) {
-        uint32_t key = rooms->list[i];
-        uint8_t color[4] = {(uint8_t)(key >> 24), (uint8_t)(key >> 16), (uint8_t)(key >> 8), (uint8_t)key};
+        Color color = color_of(rooms->list[i]);
         float l, a, b;
-        badge_to_oklab(table[color[0]], table[color[1]], table[color[2]], &l, &a, &b);
-        check(memcmp(places + 4 * i, color, 4) == 0, "a candidate");
+        badge_to_oklab(table[color.rgba[0]], table[color.rgba[1]], table[color.rgba[2]], &l, &a, &b);
+        check(memcmp(places + 4 * i, color.rgba, 4) == 0, "a candidate");
         check(oklab[3 * i] == l && oklab[3 * i + 1] == a && oklab[3 * i + 2] == b, "a candidate's Oklab colour");
     }
     check(is_unchanged_from(rooms->places, 4 * rooms->count, 1), "places after the candidates");
@@ -96,7 +138,7 @@ bool overflows(const Rooms *rooms)
 
 uint32_t rooms_number(const Picture *p, const Rooms *rooms, uint32_t kind, bool size, bool length)
 {
-    uint32_t number = kind_number(kind, shift_wrong(p->shift));
+    uint32_t number = kind_number(kind, pairing_wrong(p->shift, p->reducing));
     if (number != BADGE_ACCEPTED)
         return number;
     if (size || size_wrong(p->size.width, p->size.height))

@@ -1,6 +1,6 @@
 /*
- * What the three calls on pictures share: a picture with its tables, the rooms for its candidates and what they have to hold
- * afterwards, worked out anew, and error cells.
+ * What the three calls on pictures share: a picture with its tables and opaque pixels, its reduced colours and the rooms for
+ * its candidates, with what they have to hold afterwards, worked out anew, a second call with other alphas, and error cells.
  */
 #ifndef PICTURE_H
 #define PICTURE_H
@@ -13,9 +13,9 @@
 #include "make.h"
 
 typedef struct {
-    uint32_t shift;
+    uint32_t shift, reducing;
     Size size;
-    Lent *reduction, *scale, *pixels;
+    Lent *reduction, *scale, *pixels, *opaque; /* the last two may be the same */
 } Picture;
 
 Picture make_picture(void);
@@ -23,8 +23,21 @@ Picture make_picture(void);
 /* What the three calls on pictures read alike has a wrong length. The size is within its bounds. */
 bool picture_wrong(const Picture *p);
 
-/* The reduced colour of a pixel as a number that sorts as colours do; 0 where it is transparent. */
+/* The reduced colour of a pixel as a number that sorts as colours do; 0 where it is transparent. The lengths are right. */
 uint32_t reduced_key(const Picture *p, size_t pixel);
+
+/* The colour of a number, which is that of a reduced one. */
+typedef struct {
+    uint8_t rgba[4];
+} Color;
+
+Color color_of(uint32_t key);
+
+/* Lends all as before the first call, but with other alphas where these play no part: those of opaque pixels never do, and
+ * those of the pixels only where a picture is reduced by alpha, by being below 128. A second call has to answer as the first
+ * did, and to leave the same. */
+void change_alphas(const Picture *p);
+void check_again(const Picture *p, uint32_t number, uint32_t again);
 
 typedef struct {
     Lent *places, *oklab;

@@ -11,15 +11,21 @@
 #include "random.h"
 #include "table.h"
 
+static uint32_t call_candidate_colors_in(const Picture *p, const Rooms *rooms, const Lent *count)
+{
+    return badge_candidate_colors_in(
+        p->shift, p->reducing, p->size.width, p->size.height, p->reduction->at, p->reduction->len, p->scale->at, p->scale->len,
+        p->pixels->at, p->pixels->len, p->opaque->at, p->opaque->len, rooms->places->at, rooms->places->len, rooms->oklab->at,
+        rooms->oklab->len, count->at);
+}
+
 uint32_t try_candidate_colors_in(void)
 {
     Picture p = make_picture();
     Rooms rooms = make_rooms(&p);
     Lent *count = lend_to_write(1, sizeof(uint32_t));
     lent_remember();
-    uint32_t number = badge_candidate_colors_in(
-        p.shift, p.size.width, p.size.height, p.reduction->at, p.reduction->len, p.scale->at, p.scale->len, p.pixels->at,
-        p.pixels->len, rooms.places->at, rooms.places->len, rooms.oklab->at, rooms.oklab->len, count->at);
+    uint32_t number = call_candidate_colors_in(&p, &rooms, count);
     uint32_t expected = rooms_number(&p, &rooms, BADGE_OFF, false, false);
     if (expected == BADGE_ACCEPTED && overflows(&rooms)) {
         check(number == BADGE_REFUSED_TOO_MANY_CANDIDATES, "too many candidates, and another number");
@@ -28,55 +34,80 @@ uint32_t try_candidate_colors_in(void)
         check(u32_in(count) == rooms.count, "the count");
         check_rooms(&rooms, p.scale);
     }
+    if (once_in(2)) {
+        change_alphas(&p);
+        check_again(&p, number, call_candidate_colors_in(&p, &rooms, count));
+    }
     free(rooms.list);
     return number;
 }
 
-/* Each index is an entry's, the first of its colour, and each pixel that entry, normalised; a transparent pixel is all 0. */
-static void check_quantized(const Picture *p, const Lent *palette, const Lent *indices, const Lent *out)
+typedef struct {
+    uint32_t kind;
+    Lent *palette, *indices, *out, *cells;
+} Pass;
+
+static Pass make_pass(const Picture *p)
 {
-    const uint8_t *index = indices->fill, *pixel = out->fill, *entries = palette->fill, *table = p->scale->fill;
+    Pass pass = {.kind = make_kind(), .palette = make_palette(p->reduction)};
+    pass.indices = lend_to_write(make_length(p->size.pixels), 1);
+    pass.out = lend_to_write(make_length(4 * p->size.pixels), 1);
+    pass.cells = make_cells(pass.kind, p->size.pixels);
+    return pass;
+}
+
+/* Each index is an entry's, the first of its colour, and each pixel that entry, normalised; a transparent pixel is all 0. */
+static void check_quantized(const Picture *p, const Pass *pass)
+{
+    const uint8_t *index = pass->indices->fill, *pixel = pass->out->fill;
+    const uint8_t *entries = pass->palette->fill, *table = p->scale->fill;
     bool used[256] = {false};
-    for (size_t i = 0; i < indices->len; i++) {
-        bool opaque = ((uint8_t *)p->pixels->fill)[4 * i + 3] >= 128;
-        check(index[i] < palette->len / 4 && (opaque || index[i] == 0), "an index");
+    for (size_t i = 0; i < pass->indices->len; i++) {
+        bool transparent = reduced_key(p, i) == 0;
+        check(index[i] < pass->palette->len / 4 && (!transparent || index[i] == 0), "an index");
         for (size_t c = 0; c < 4; c++)
-            check(pixel[4 * i + c] == (opaque ? table[entries[4 * index[i] + c]] : 0), "a pixel");
+            check(pixel[4 * i + c] == (transparent ? 0 : table[entries[4 * index[i] + c]]), "a pixel");
         used[index[i]] = true;
     }
     for (size_t k = 0; k < 256; k++)
-        check(!used[k] || is_first(palette, k, 4), "an index that is not the first of its colour");
+        check(!used[k] || is_first(pass->palette, k, 4), "an index that is not the first of its colour");
 }
 
-static uint32_t quantize_number(const Picture *p, uint32_t kind, const Lent *palette, const Lent *indices, const Lent *out,
-                                const Lent *cells)
+static uint32_t quantize_number(const Picture *p, const Pass *pass)
 {
     size_t pixels = (size_t)p->size.width * p->size.height;
-    uint32_t number = kind_number(kind, shift_wrong(p->shift));
+    uint32_t number = kind_number(pass->kind, pairing_wrong(p->shift, p->reducing));
     if (number != BADGE_ACCEPTED)
         return number;
     if (size_wrong(p->size.width, p->size.height))
         return BADGE_REFUSED_SIZE;
-    if (picture_wrong(p) || palette->len % 4 != 0 || indices->len != pixels || out->len != 4 * pixels
-        || cells_wrong(cells->len, kind, pixels))
+    if (picture_wrong(p) || pass->palette->len % 4 != 0 || pass->indices->len != pixels || pass->out->len != 4 * pixels
+        || cells_wrong(pass->cells->len, pass->kind, pixels))
         return BADGE_REFUSED_LENGTH;
-    return entries_wrong(palette->len / 4, 256) ? BADGE_REFUSED_ENTRIES : BADGE_ACCEPTED;
+    return entries_wrong(pass->palette->len / 4, 256) ? BADGE_REFUSED_ENTRIES : BADGE_ACCEPTED;
+}
+
+static uint32_t call_quantize_pixels(const Picture *p, const Pass *pass)
+{
+    return badge_quantize_pixels(
+        p->shift, p->reducing, pass->kind, p->size.width, p->size.height, p->reduction->at, p->reduction->len, p->scale->at,
+        p->scale->len, pass->palette->at, pass->palette->len, p->pixels->at, p->pixels->len, p->opaque->at, p->opaque->len,
+        pass->indices->at, pass->indices->len, pass->out->at, pass->out->len, pass->cells->at, pass->cells->len);
 }
 
 uint32_t try_quantize_pixels(void)
 {
     Picture p = make_picture();
-    uint32_t kind = make_kind();
-    Lent *palette = make_palette(p.reduction), *indices = lend_to_write(make_length(p.size.pixels), 1);
-    Lent *out = lend_to_write(make_length(4 * p.size.pixels), 1), *cells = make_cells(kind, p.size.pixels);
+    Pass pass = make_pass(&p);
     lent_remember();
-    uint32_t number = badge_quantize_pixels(
-        p.shift, kind, p.size.width, p.size.height, p.reduction->at, p.reduction->len, p.scale->at, p.scale->len, palette->at,
-        palette->len, p.pixels->at, p.pixels->len, indices->at, indices->len, out->at, out->len, cells->at, cells->len);
-    uint32_t expected = quantize_number(&p, kind, palette, indices, out, cells);
-    if (held(number, expected, NAMED(indices, out, cells)) == BADGE_ACCEPTED) {
-        check_quantized(&p, palette, indices, out);
-        check_cells(cells);
+    uint32_t number = call_quantize_pixels(&p, &pass);
+    if (held(number, quantize_number(&p, &pass), NAMED(pass.indices, pass.out, pass.cells)) == BADGE_ACCEPTED) {
+        check_quantized(&p, &pass);
+        check_cells(pass.cells);
+    }
+    if (once_in(2)) {
+        change_alphas(&p);
+        check_again(&p, number, call_quantize_pixels(&p, &pass));
     }
     return number;
 }
@@ -87,14 +118,21 @@ typedef struct {
     Lent *out, *cells, *count, *tile;
 } Mode;
 
+/* Whether a picture has a first pixel, and what it reduces to is known. */
+static bool has_pixel(const Picture *p)
+{
+    return !size_wrong(p->size.width, p->size.height) && !picture_wrong(p) && p->pixels->len != 0;
+}
+
 static Mode make_mode(const Picture *p)
 {
     Mode m = {.kind = make_kind(), .tile_width = make_side(), .tile_height = make_side(), .limit = make_limit()};
     m.origin_x = make_origin(p->size.width);
     m.origin_y = make_origin(p->size.height);
     m.has_zero = once_in(2) ? 0 : once_in(2) ? 1 : (uint32_t)random_bits();
-    uint32_t key = p->reduction->len == 256 && p->pixels->len >= 4 ? reduced_key(p, 0) : (uint32_t)random_bits();
-    memcpy(m.zero, (uint8_t[]){(uint8_t)(key >> 24), (uint8_t)(key >> 16), (uint8_t)(key >> 8), random_byte()}, 4);
+    uint32_t key = has_pixel(p) ? reduced_key(p, 0) : (uint32_t)random_bits();
+    memcpy(m.zero, color_of(key).rgba, 3);
+    m.zero[3] = random_byte();
     m.out = lend_to_write(make_length(4 * p->size.pixels), 1);
     m.cells = make_cells(m.kind, p->size.pixels);
     m.count = lend_to_write(1, sizeof(uint32_t));
@@ -128,14 +166,29 @@ static void check_tile_over(const Picture *p, const Rooms *rooms, const Mode *m)
           "what a tile over its limit leaves");
 }
 
-/* What acceptance leaves: a transparent pixel is all 0, any other has alpha 255, normalised. */
+/* A transparent pixel is all 0. Any other has alpha 255, normalised, and is a grey in grey; one of colour zero keeps its
+ * reduced colour. */
+static void check_pixel(const Picture *p, const Mode *m, size_t pixel)
+{
+    const uint8_t *out = (uint8_t *)m->out->fill + 4 * pixel, *table = p->scale->fill;
+    uint32_t key = reduced_key(p, pixel);
+    Color color = color_of(key);
+    if (key == 0) {
+        check(memcmp(out, "\0\0\0", 4) == 0, "a pixel");
+        return;
+    }
+    check(out[3] == table[255], "a pixel");
+    check(p->reducing != BADGE_GREY || (out[0] == out[1] && out[0] == out[2]), "a pixel that is no grey");
+    if (m->has_zero != 0 && memcmp(color.rgba, m->zero, 3) == 0)
+        for (size_t c = 0; c < 3; c++)
+            check(out[c] == table[color.rgba[c]], "a pixel of colour zero");
+}
+
+/* What acceptance leaves. */
 static void check_dithered(const Picture *p, const Rooms *rooms, const Mode *m)
 {
-    const uint8_t *pixels = p->pixels->fill, *out = m->out->fill, *table = p->scale->fill;
-    for (size_t i = 0; i < m->out->len; i += 4) {
-        bool opaque = pixels[i + 3] >= 128;
-        check(opaque ? out[i + 3] == table[255] : memcmp(out + i, "\0\0\0", 4) == 0, "a pixel");
-    }
+    for (size_t i = 0; i < m->out->len / 4; i++)
+        check_pixel(p, m, i);
     check_cells(m->cells);
     check(unchanged_but(NAMED(rooms->places, rooms->oklab, m->out, m->cells, m->count)), "what acceptance leaves");
 }
@@ -160,18 +213,28 @@ static void check_mode(const Picture *p, const Rooms *rooms, const Mode *m, uint
     check_rooms(rooms, p->scale);
 }
 
+static uint32_t call_dither_to_mode(const Picture *p, const Rooms *rooms, const Mode *m)
+{
+    return badge_dither_to_mode(
+        p->shift, p->reducing, m->kind, p->size.width, p->size.height, m->origin_x, m->origin_y, m->tile_width,
+        m->tile_height, m->limit, m->has_zero, m->zero[0], m->zero[1], m->zero[2], m->zero[3], p->reduction->at,
+        p->reduction->len, p->scale->at, p->scale->len, p->pixels->at, p->pixels->len, p->opaque->at, p->opaque->len,
+        rooms->places->at, rooms->places->len, rooms->oklab->at, rooms->oklab->len, m->out->at, m->out->len, m->cells->at,
+        m->cells->len, m->count->at, m->tile->at);
+}
+
 uint32_t try_dither_to_mode(void)
 {
     Picture p = make_picture();
     Rooms rooms = make_rooms(&p);
     Mode m = make_mode(&p);
     lent_remember();
-    uint32_t number = badge_dither_to_mode(
-        p.shift, m.kind, p.size.width, p.size.height, m.origin_x, m.origin_y, m.tile_width, m.tile_height, m.limit,
-        m.has_zero, m.zero[0], m.zero[1], m.zero[2], m.zero[3], p.reduction->at, p.reduction->len, p.scale->at, p.scale->len,
-        p.pixels->at, p.pixels->len, rooms.places->at, rooms.places->len, rooms.oklab->at, rooms.oklab->len, m.out->at,
-        m.out->len, m.cells->at, m.cells->len, m.count->at, m.tile->at);
+    uint32_t number = call_dither_to_mode(&p, &rooms, &m);
     check_mode(&p, &rooms, &m, number, mode_number(&p, &rooms, &m));
+    if (once_in(2)) {
+        change_alphas(&p);
+        check_again(&p, number, call_dither_to_mode(&p, &rooms, &m));
+    }
     free(rooms.list);
     return number;
 }

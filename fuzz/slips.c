@@ -1,8 +1,10 @@
 /*
  * Shows that the fuzz can fail: linked with --wrap, each call below goes to the archive and then makes the slip whose number
  * the variable SLIP has. A slip that draws a retired kind gives the archive another kind for it. With no such variable nothing
- * is changed.
+ * is changed. The slips of the reduction are in slips_reducing.c.
  */
+#include "slips.h"
+
 #include <stdbool.h>
 #include <stdlib.h>
 #include <string.h>
@@ -14,17 +16,6 @@
 #define PICK                                                                                                                 \
     const uint8_t *dark, size_t dark_len, const uint8_t *light, size_t light_len, float ratio, uint32_t kind, uint32_t x,    \
         uint32_t y, uint8_t *chosen, size_t chosen_len
-
-#define SIZES uint32_t shift, uint32_t kind, uint32_t width, uint32_t height
-#define TABLES const uint8_t *reduction, size_t reduction_len, const uint8_t *scale, size_t scale_len
-#define QUANTIZE                                                                                                             \
-    SIZES, TABLES, const uint8_t *palette, size_t palette_len, const uint8_t *pixels, size_t pixels_len, uint8_t *indices,   \
-        size_t indices_len, uint8_t *out, size_t out_len, int16_t *cells, size_t cells_len
-#define TO_MODE                                                                                                              \
-    SIZES, uint32_t origin_x, uint32_t origin_y, uint32_t tile_width, uint32_t tile_height, uint32_t limit,                  \
-        uint32_t has_zero, uint8_t zero_r, uint8_t zero_g, uint8_t zero_b, uint8_t zero_a, TABLES, const uint8_t *pixels,    \
-        size_t pixels_len, uint8_t *places, size_t places_len, float *oklab, size_t oklab_len, uint8_t *out, size_t out_len, \
-        int16_t *cells, size_t cells_len, uint32_t *count, uint32_t *tile
 
 #define SIDES uint32_t width, uint32_t height
 #define PAM_SIZE const uint8_t *file, size_t file_len, uint32_t *width, uint32_t *height
@@ -44,9 +35,7 @@ uint32_t __real_badge_ordered_threshold(THRESHOLD);
 uint32_t __wrap_badge_ordered_threshold(THRESHOLD);
 uint32_t __real_badge_pick(PICK);
 uint32_t __wrap_badge_pick(PICK);
-uint32_t __real_badge_quantize_pixels(QUANTIZE);
 uint32_t __wrap_badge_quantize_pixels(QUANTIZE);
-uint32_t __real_badge_dither_to_mode(TO_MODE);
 uint32_t __wrap_badge_dither_to_mode(TO_MODE);
 uint32_t __real_badge_pam_size(PAM_SIZE);
 uint32_t __wrap_badge_pam_size(PAM_SIZE);
@@ -61,7 +50,7 @@ uint32_t __wrap_badge_nearest(NEAREST);
 uint32_t __real_badge_ordered_bracket(BRACKET);
 uint32_t __wrap_badge_ordered_bracket(BRACKET);
 
-static int slip(void)
+int slip(void)
 {
     static int number = -1;
     if (number < 0)
@@ -72,12 +61,12 @@ static int slip(void)
 /* What is read is kept, since a checker may pass over a read whose value is not used. */
 static volatile uint8_t kept;
 
-static void read_byte(const uint8_t *at)
+void read_byte(const uint8_t *at)
 {
     kept = *at;
 }
 
-static void write_again(const uint8_t *at)
+void write_again(const uint8_t *at)
 {
     volatile uint8_t *byte = (volatile uint8_t *)(uintptr_t)at;
     *byte = *byte;
@@ -158,11 +147,12 @@ uint32_t __wrap_badge_quantize_pixels(QUANTIZE)
 {
     uint32_t given = drawn_as(kind, 45, BADGE_STIPPLE_H, BADGE_LINE_H); /* kind 6 still drawn */
     int16_t lent = last_of(cells, cells_len);
-    uint32_t number = __real_badge_quantize_pixels(shift, given, width, height, reduction, reduction_len, scale, scale_len,
-                                                   palette, palette_len, pixels, pixels_len, indices, indices_len, out,
-                                                   out_len, cells, told(kind, indices_len, cells_len, 60, 61));
+    uint32_t number = reducing_quantize_pixels(shift, reducing, given, width, height, reduction, reduction_len, scale,
+                                               scale_len, palette, palette_len, pixels, pixels_len, opaque, opaque_len,
+                                               indices, indices_len, out, out_len, cells,
+                                               told(kind, indices_len, cells_len, 60, 61));
     bool accepted = number == BADGE_ACCEPTED, length = number == BADGE_REFUSED_LENGTH;
-    bool retired = number == BADGE_REFUSED_RETIRED_KIND;
+    bool retired = number == BADGE_REFUSED_RETIRED_KIND, pairing = pairing_wrong(shift, reducing);
     switch (slip()) {
     case 1: if (pixels_len) read_byte(pixels + pixels_len); break; /* reads after a buffer */
     case 2: if (palette_len) read_byte(palette - 1); break;        /* reads before one */
@@ -175,8 +165,8 @@ uint32_t __wrap_badge_quantize_pixels(QUANTIZE)
     case 33: /* a later twin of the palette */
         if (accepted && indices_len) indices[0] = (uint8_t)last_twin(palette, 4, palette_len / 4, indices[0]);
         break;
-    case 46: if (is_retired(kind) && shift_wrong(shift)) number = BADGE_REFUSED_RETIRED_KIND; break; /* 15 before 1 */
-    case 47: if (retired && size_wrong(width, height)) number = BADGE_REFUSED_SIZE; break;           /* 2 before 15 */
+    case 46: if (is_retired(kind) && pairing) number = BADGE_REFUSED_RETIRED_KIND; break;  /* 15 before 1 */
+    case 47: if (retired && size_wrong(width, height)) number = BADGE_REFUSED_SIZE; break; /* 2 before 15 */
     case 48: if (retired && out_len) out[0] ^= 1; break; /* changes a buffer where it refuses */
     case 54: if (accepted && cells_len) cells[cells_len - 1] = INT16_MIN; break;    /* the one that has no opposite */
     case 55: if (accepted && cells_len) cells[cells_len - 1] += lent; break;        /* begins with what was lent */
@@ -193,14 +183,14 @@ uint32_t __wrap_badge_dither_to_mode(TO_MODE)
 {
     uint32_t given = drawn_as(kind, 49, BADGE_STIPPLE_V, BADGE_LINE_V); /* kind 5 given to another */
     int16_t lent = last_of(cells, cells_len);
-    uint32_t number = __real_badge_dither_to_mode(
-        shift, given, width, height, origin_x, origin_y, tile_width, tile_height, limit, has_zero, zero_r, zero_g, zero_b,
-        zero_a, reduction, reduction_len, scale, scale_len, pixels, pixels_len, places, places_len, oklab, oklab_len, out,
-        out_len, cells, told(kind, out_len / 4, cells_len, 67, 68), count, tile);
+    uint32_t number = reducing_dither_to_mode(
+        shift, reducing, given, width, height, origin_x, origin_y, tile_width, tile_height, limit, has_zero, zero_r, zero_g,
+        zero_b, zero_a, reduction, reduction_len, scale, scale_len, pixels, pixels_len, opaque, opaque_len, places,
+        places_len, oklab, oklab_len, out, out_len, cells, told(kind, out_len / 4, cells_len, 67, 68), count, tile);
     bool accepted = number == BADGE_ACCEPTED, over = number == BADGE_REFUSED_TILE_OVER;
     bool many = number == BADGE_REFUSED_TOO_MANY_CANDIDATES, retired = number == BADGE_REFUSED_RETIRED_KIND;
     bool origin = origin_wrong(origin_x, width) || origin_wrong(origin_y, height);
-    bool tiles = tile_wrong(tile_width, tile_height, limit);
+    bool tiles = tile_wrong(tile_width, tile_height, limit), pairing = pairing_wrong(shift, reducing);
     switch (slip()) {
     case 9: if (many && places_len) places[places_len - 1] = 1; break;  /* does not clear all that it has to */
     case 10: if (over && cells_len) cells[cells_len - 1] = 1; break;    /* nor here */
@@ -210,9 +200,9 @@ uint32_t __wrap_badge_dither_to_mode(TO_MODE)
     case 14: if (over) *tile = 0xffffffffu; break;                      /* invents a tile */
     case 15: if (over) number = 1000; break;                            /* a number that there is not */
     case 16: if (accepted && oklab_len) oklab[oklab_len - 1] += 1.0f; break;
-    case 50: if (is_retired(kind) && shift_wrong(shift)) number = BADGE_REFUSED_RETIRED_KIND; break; /* 15 before 1 */
-    case 51: if (retired && origin) number = BADGE_REFUSED_SIZE; break;                              /* 2 before 15 */
-    case 52: if (retired && tiles) number = BADGE_REFUSED_TILES; break;                              /* 5 before 15 */
+    case 50: if (is_retired(kind) && pairing) number = BADGE_REFUSED_RETIRED_KIND; break; /* 15 before 1 */
+    case 51: if (retired && origin) number = BADGE_REFUSED_SIZE; break;                   /* 2 before 15 */
+    case 52: if (retired && tiles) number = BADGE_REFUSED_TILES; break;                   /* 5 before 15 */
     case 53: if (retired) *count = 0; break; /* writes behind a pointer where it refuses */
     case 62: if (accepted && cells_len) cells[cells_len - 1] = -4081; break;
     case 63: if (accepted && cells_len) write_cell_again(cells - 1); break; /* writes before the cells */

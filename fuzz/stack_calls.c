@@ -1,10 +1,11 @@
 /*
  * The sixteen calls of the C interface, and what each is measured over: all kinds and shifts, palettes of 256 entries, lists of
- * 65,536, PAM files of both depths, refusals. See stack.h.
+ * 65,536, PAM files of both depths, refusals. The calls on pictures have a row for each reduction. See stack.h.
  */
 #include "stack.h"
 
 #include <stdio.h>
+#include <string.h>
 
 #include "badge_dither.h"
 #include "random.h"
@@ -15,14 +16,14 @@ uint64_t random_state = 1;
 
 /* ---- what is lent */
 
-static uint8_t reduction[256], scale[256], palette[4 * 256], pixels[4 * PIXELS], indices[PIXELS], out[4 * PIXELS];
-static uint8_t file[4 * PIXELS + 200];
+static uint8_t reduction[256], scale[256], palette[4 * 256], pixels[4 * PIXELS], opaque[4 * PIXELS];
+static uint8_t indices[PIXELS], out[4 * PIXELS], file[4 * PIXELS + 200];
 static uint8_t places[4 * ENTRIES], colors[4 * ENTRIES], dark[4], light[4] = {31, 31, 31, 255}, chosen[4];
 static float oklab[3 * ENTRIES], list_oklab[3 * ENTRIES];
 static int16_t cells[3 * PIXELS];
 
 static struct {
-    uint32_t kind, shift, side, width, height, limit, tile_side, has_zero;
+    uint32_t kind, shift, reducing, side, width, height, limit, tile_side, has_zero;
     size_t entries, places, pixels_len, file_len;
     uint8_t r, g, b;
     float component;
@@ -38,6 +39,10 @@ void make_inputs(void)
         palette[i] = i % 4 == 3 ? 255 : (uint8_t)below(32);
     for (size_t i = 0; i < sizeof pixels; i++)
         pixels[i] = i % 4 == 3 && !once_in(8) ? 255 : random_byte();
+    memcpy(pixels, (uint8_t[]){0, 0, 0, 255}, 4); /* which reduces alike in every way */
+    for (size_t i = 0; i < sizeof pixels; i += 4)
+        if (pixels[i + 3] >= 128)
+            memcpy(opaque + i, pixels + i, 4);
     for (size_t i = 0; i < sizeof colors; i++)
         colors[i] = random_byte();
     for (size_t i = 0; i < ENTRIES; i++)
@@ -110,24 +115,30 @@ static size_t cells_now(void)
     return now.kind >= BADGE_ATKINSON ? 3 * pixels_now() : 0;
 }
 
+static size_t opaque_now(void)
+{
+    return now.reducing != BADGE_BY_ALPHA ? 4 * pixels_now() : 0;
+}
+
 static void call_candidate_colors_in(void)
 {
-    badge_candidate_colors_in(now.shift, now.side, now.side, reduction, 256, scale, 256, pixels, 4 * pixels_now(), places,
-                              4 * now.places, oklab, 3 * now.places, &u32_out);
+    badge_candidate_colors_in(now.shift, now.reducing, now.side, now.side, reduction, 256, scale, 256, pixels,
+                              4 * pixels_now(), opaque, opaque_now(), places, 4 * now.places, oklab, 3 * now.places, &u32_out);
 }
 
 static void call_quantize_pixels(void)
 {
-    badge_quantize_pixels(now.shift, now.kind, now.side, now.side, reduction, 256, scale, 256, palette, 4 * now.entries, pixels,
-                          4 * pixels_now(), indices, pixels_now(), out, 4 * pixels_now(), cells, cells_now());
+    badge_quantize_pixels(now.shift, now.reducing, now.kind, now.side, now.side, reduction, 256, scale, 256, palette,
+                          4 * now.entries, pixels, 4 * pixels_now(), opaque, opaque_now(), indices, pixels_now(), out,
+                          4 * pixels_now(), cells, cells_now());
 }
 
 static void call_dither_to_mode(void)
 {
-    badge_dither_to_mode(now.shift, now.kind, now.side, now.side, 3, 5, now.tile_side, now.tile_side, now.limit, now.has_zero,
-                         reduction[pixels[0]], reduction[pixels[1]], reduction[pixels[2]], 255, reduction, 256, scale, 256,
-                         pixels, 4 * pixels_now(), places, 4 * now.places, oklab, 3 * now.places, out, 4 * pixels_now(), cells,
-                         cells_now(), &u32_out, &u32_other);
+    badge_dither_to_mode(now.shift, now.reducing, now.kind, now.side, now.side, 3, 5, now.tile_side, now.tile_side, now.limit,
+                         now.has_zero, reduction[0], reduction[0], reduction[0], 255, reduction, 256, scale, 256, pixels,
+                         4 * pixels_now(), opaque, opaque_now(), places, 4 * now.places, oklab, 3 * now.places, out,
+                         4 * pixels_now(), cells, cells_now(), &u32_out, &u32_other);
 }
 
 static void call_pam_size(void)
@@ -171,15 +182,30 @@ static void over_components(bool by_steps)
     }
 }
 
-/* All kinds and shifts, and one more of each, which is refused, as the retired kinds are. */
+/* The shift that goes by steps: one that the reduction takes. */
+static uint32_t shift_by_steps(void)
+{
+    return now.reducing != BADGE_BY_ALPHA ? 6 : 3;
+}
+
+/* All shifts and one more, which is refused, as those are that the reduction does not take. */
+static void over_shifts(bool by_steps)
+{
+    uint32_t first = by_steps ? shift_by_steps() : 3, last = by_steps ? first : 7;
+    for (now.shift = first; now.shift <= last; now.shift++)
+        measure(by_steps);
+}
+
+/* All kinds, and one more, which is refused, as the retired ones are. By steps another reduction has every third alone: off, an
+ * ordered kind, a retired and a diffusing one. */
 static void over_kinds(bool by_steps)
 {
+    uint32_t next = by_steps && now.reducing != BADGE_BY_ALPHA ? 3 : 1;
     now.side = by_steps ? 3 : SIDE;
-    for (now.kind = BADGE_OFF; now.kind <= BADGE_FLOYD_STEINBERG + 1; now.kind++)
-        for (now.shift = 3; now.shift <= (by_steps ? 3 : 6); now.shift++) {
-            now.component = (float)(now.kind % 2);
-            measure(by_steps);
-        }
+    for (now.kind = BADGE_OFF; now.kind <= BADGE_FLOYD_STEINBERG + 1; now.kind += next) {
+        now.component = (float)(now.kind % 2);
+        over_shifts(by_steps);
+    }
 }
 
 static void over_lists(bool by_steps)
@@ -204,11 +230,10 @@ static void over_palettes(bool by_steps)
 static void over_rooms(bool by_steps)
 {
     now.side = by_steps ? 3 : SIDE;
-    for (now.shift = 3; now.shift <= (by_steps ? 3 : 6); now.shift++)
-        for (int few = 0; few < 2; few++) {
-            now.places = few ? 2 : ENTRIES;
-            measure(by_steps);
-        }
+    for (int few = 0; few < 2; few++) {
+        now.places = few ? 2 : ENTRIES;
+        over_shifts(by_steps);
+    }
 }
 
 /* Accepted, with and without colour zero; over the limit; without room; with tiles that cannot be. */
@@ -224,6 +249,44 @@ static void over_modes(bool by_steps)
         now.has_zero = some[i].has_zero, now.places = some[i].places;
         over_kinds(by_steps);
     }
+}
+
+/* The same in another reduction. */
+static void reduced_as(uint32_t reducing, void (*over)(bool by_steps), bool by_steps)
+{
+    now.reducing = reducing;
+    over(by_steps);
+    now.reducing = BADGE_BY_ALPHA;
+}
+
+static void over_rooms_grey(bool by_steps)
+{
+    reduced_as(BADGE_GREY, over_rooms, by_steps);
+}
+
+static void over_rooms_opaque(bool by_steps)
+{
+    reduced_as(BADGE_OPAQUE_COLOR, over_rooms, by_steps);
+}
+
+static void over_palettes_grey(bool by_steps)
+{
+    reduced_as(BADGE_GREY, over_palettes, by_steps);
+}
+
+static void over_palettes_opaque(bool by_steps)
+{
+    reduced_as(BADGE_OPAQUE_COLOR, over_palettes, by_steps);
+}
+
+static void over_modes_grey(bool by_steps)
+{
+    reduced_as(BADGE_GREY, over_modes, by_steps);
+}
+
+static void over_modes_opaque(bool by_steps)
+{
+    reduced_as(BADGE_OPAQUE_COLOR, over_modes, by_steps);
 }
 
 /* Files of both depths, each also with a byte too few and lent pixels of another length, and headers that are refused. */
@@ -272,8 +335,14 @@ const Measured measured[] = {
     {"badge_ordered_bracket", LOOKUP, call_ordered_bracket, over_lists},
     {"badge_pick", CALL, call_pick, over_kinds},
     {"badge_candidate_colors_in", CALL, call_candidate_colors_in, over_rooms},
+    {"  in grey", CALL, call_candidate_colors_in, over_rooms_grey},
+    {"  in opaque colour", CALL, call_candidate_colors_in, over_rooms_opaque},
     {"badge_quantize_pixels", CALL, call_quantize_pixels, over_palettes},
+    {"  in grey", CALL, call_quantize_pixels, over_palettes_grey},
+    {"  in opaque colour", CALL, call_quantize_pixels, over_palettes_opaque},
     {"badge_dither_to_mode", CALL, call_dither_to_mode, over_modes},
+    {"  in grey", CALL, call_dither_to_mode, over_modes_grey},
+    {"  in opaque colour", CALL, call_dither_to_mode, over_modes_opaque},
     {"badge_pam_size", CALL, call_pam_size, over_files},
     {"badge_read_pam", CALL, call_read_pam, over_files},
     {"badge_pam_length", CALL, call_pam_length, over_sides},

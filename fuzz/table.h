@@ -32,11 +32,11 @@ static inline bool has_matrix(uint32_t kind)
     return kind >= BADGE_BAYER_2X2 && kind <= BADGE_LINE_H && !is_retired(kind);
 }
 
-/* The number of a call by its kind, where its shift may be wrong besides. A retired kind's comes directly after 1, and before
- * all others. */
-static inline uint32_t kind_number(uint32_t kind, bool shift)
+/* The number of a call by its kind, where its shift and reduction may not go together besides. A retired kind's comes directly
+ * after 1, and before all others. */
+static inline uint32_t kind_number(uint32_t kind, bool pairing)
 {
-    if (kind_wrong(kind) || shift)
+    if (kind_wrong(kind) || pairing)
         return BADGE_REFUSED_KIND_OR_SHIFT;
     return is_retired(kind) ? BADGE_REFUSED_RETIRED_KIND : BADGE_ACCEPTED;
 }
@@ -52,9 +52,21 @@ static inline uint32_t matrix_number(uint32_t kind, bool length)
     return has_matrix(kind) ? BADGE_ACCEPTED : BADGE_REFUSED_NO_MATRIX;
 }
 
+/* The shift of a width that is asked for alone. */
 static inline bool shift_wrong(uint32_t shift)
 {
-    return shift < 3 || shift > 5;
+    return shift < 3 || shift > 6;
+}
+
+/* A reduction that there is not, or one that no mode of this shift has. */
+static inline bool pairing_wrong(uint32_t shift, uint32_t reducing)
+{
+    switch (reducing) {
+    case BADGE_BY_ALPHA: return shift < 3 || shift > 5;
+    case BADGE_GREY: return shift != 5 && shift != 6;
+    case BADGE_OPAQUE_COLOR: return shift != 6;
+    default: return true;
+    }
 }
 
 static inline bool size_wrong(uint32_t width, uint32_t height)
@@ -85,6 +97,12 @@ static inline bool list_wrong(size_t reduced, size_t normalized, size_t oklab)
 static inline bool rooms_wrong(size_t places, size_t oklab)
 {
     return places % 4 != 0 || places / 4 > 65536 || oklab != places / 4 * 3;
+}
+
+/* The opaque pixels' bytes: by alpha there are none. */
+static inline size_t opaque_length(uint32_t reducing, size_t pixels)
+{
+    return reducing == BADGE_BY_ALPHA ? 0 : 4 * pixels;
 }
 
 /* Error cells: three a pixel where error is passed on. Cells are counted, and not their bytes. */

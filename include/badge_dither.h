@@ -2,11 +2,11 @@
  * The badge dither: SuperFamiconv's dithering behind a C interface. Link with libexports.a, which `rt staticlib exports`
  * writes.
  *
- * Numbers. Kinds and refusals are numbers, which `enum badge_kind` and `enum badge_refusal` name; a call takes any number as a
- * kind. A call that can refuse returns 0, BADGE_ACCEPTED, where it accepts. It can be refused with the numbers that its comment
- * names, without their BADGE_REFUSED_, and with no others; where several apply, with the first in the comment's order. A
- * refusal changes nothing: what is behind a pointer and what is in a buffer is as it was, unless the call's comment says
- * otherwise.
+ * Numbers. Kinds, reductions and refusals are numbers, which `enum badge_kind`, `enum badge_reducing` and `enum badge_refusal`
+ * name; a call takes any number as a kind or a reduction. A call that can refuse returns 0, BADGE_ACCEPTED, where it accepts.
+ * It can be refused with the numbers that its comment names, without their BADGE_REFUSED_, and with no others; where several
+ * apply, with the first in the comment's order. A refusal changes nothing: what is behind a pointer and what is in a buffer is
+ * as it was, unless the call's comment says otherwise.
  *
  * Buffers. A buffer is a pointer and, after it, a length (badge_length) that counts elements: bytes of a uint8_t buffer,
  * floats of a float buffer, cells of an int16_t buffer. The pointer may be null where the length is 0. A pointer to a single
@@ -61,10 +61,18 @@ enum badge_kind {
     BADGE_STIPPLE_H = 6  /* retired: horizontal stipple */
 };
 
+/* How a mode reduces a pixel, and the shifts that go with it. What each does is said before the calls on pictures. */
+enum badge_reducing {
+    BADGE_BY_ALPHA = 0,    /* its colour, or transparent: shift 3, 4 or 5 */
+    BADGE_GREY = 1,        /* the grey of its opaque pixel: shift 5 or 6 */
+    BADGE_OPAQUE_COLOR = 2 /* the colour of its opaque pixel: shift 6 */
+};
+
 /* What a call that can refuse returns. */
 enum badge_refusal {
     BADGE_ACCEPTED = 0,
-    /* a kind above 10, or a shift that is not 3, 4 or 5 */
+    /* a kind above 10; in a call on pictures a reduction above 2, or a shift that does not go with the reduction; in
+       badge_bracket_width a shift that is not from 3 to 6 */
     BADGE_REFUSED_KIND_OR_SHIFT = 1,
     /* a picture that is too large: a side above 4,096, or more than 1,048,576 pixels, or an origin and a side that add up to
        more than 4,294,967,295 */
@@ -87,8 +95,8 @@ enum badge_refusal {
     BADGE_REFUSED_PAM_HEADER = 10,
     /* a PAM file that has fewer bytes after its header than the pixels take, or more */
     BADGE_REFUSED_PAM_PIXELS = 11,
-    /* a retired kind: 5 or 6. It comes directly after KIND_OR_SHIFT: a retired kind with a wrong shift is refused with that,
-       and one with a wrong size or length with this */
+    /* a retired kind: 5 or 6. It comes directly after KIND_OR_SHIFT: a retired kind with a wrong shift or reduction is refused
+       with that, and one with a wrong size or length with this */
     BADGE_REFUSED_RETIRED_KIND = 15
 };
 
@@ -114,7 +122,7 @@ uint32_t badge_ordered_threshold(uint32_t kind, uint32_t x, uint32_t y, float *t
 
 /*
  * How many candidates beside the nearest are considered for a mix: max * shift / 16, rounded with halves up, at least 1 and
- * at most 16. max is the number of colours of a palette or of a tile, and may be any number.
+ * at most 16. max is the number of colours of a palette or of a tile, and may be any number. The shift is 3 to 6.
  * Accepts: writes the width. Refuses: KIND_OR_SHIFT (the shift).
  */
 uint32_t badge_bracket_width(uint32_t shift, uint64_t max, uint64_t *width);
@@ -179,9 +187,27 @@ uint32_t badge_pick(const uint8_t *dark, badge_length dark_len, const uint8_t *l
 
 /*
  * Pictures lie row by row, four bytes a pixel. The caller lends two tables of 256 bytes: reduction gives a console's own
- * value for each channel value, scale the value from 0 to 255 for each of the console's. A pixel whose alpha is below 128 is
- * transparent. Any other reduces to its red, green and blue through the reduction table, with alpha 255. Normalising sends
- * all four bytes through the scale table. The shift is that of the console's mode: 3, 4 or 5.
+ * value for each channel value, scale the value from 0 to 255 for each of the console's. Normalising sends all four bytes
+ * through the scale table. shift and reducing are those of the console's mode. A pixel reduces so:
+ *
+ * BADGE_BY_ALPHA, shift 3, 4 or 5. A pixel whose alpha is below 128 is transparent. Any other reduces to its red, green and
+ * blue through the reduction table, with alpha 255. opaque is empty.
+ *
+ * BADGE_GREY, shift 5 or 6. A pixel reduces to a grey: the luma of its opaque pixel through the reduction table, for red,
+ * green and blue alike, with alpha 255. Of red r, green g and blue b the luma is the original's:
+ *
+ *     (r / 255 * 0.2126 + g / 255 * 0.7152 + b / 255 * 0.0722) * 255
+ *
+ * in floats, the factors too, in C's order and with each step rounded to the nearest float; then held to 0..255, and cut to a
+ * byte, the whole number below.
+ *
+ * BADGE_OPAQUE_COLOR, shift 6. A pixel reduces to red, green and blue of its opaque pixel through the reduction table, with
+ * alpha 255.
+ *
+ * The opaque pixels are lent for the last two, in opaque, four bytes for each of pixels. What the original takes there is its
+ * opaque_threshold of the pixel: the pixel itself, or four zeros where its alpha is below 128. But any bytes will do, and no
+ * alpha of theirs is read. So no pixel is transparent then, whatever its alpha in either buffer. The reduced colour alone comes
+ * from opaque; the colour that is dithered is still the one in pixels. Both are only read, and may be the same memory.
  *
  * A diffusing kind takes three error cells a pixel, for red, green and blue, 6 bytes in all; other kinds take none. What is
  * lent may hold anything: every cell starts at 0. On acceptance a cell holds the error that earlier pixels passed on to its
@@ -193,16 +219,18 @@ uint32_t badge_pick(const uint8_t *dark, badge_length dark_len, const uint8_t *l
  * green, blue and alpha. The caller lends room for 0 to 65,536 of them: places takes the reduced colours, oklab the Oklab
  * colours of their normalised forms.
  *
- * Lengths: reduction and scale 256; pixels 4 a pixel; places 4 a place; oklab 3 a place. Only places and oklab are written.
+ * Lengths: reduction and scale 256; pixels 4 a pixel; opaque 4 a pixel, but 0 with BADGE_BY_ALPHA; places 4 a place; oklab
+ * 3 a place. Only places and oklab are written.
  * Accepts: writes the candidates and their Oklab colours to the front of places and oklab, and how many they are behind
  * count. Places after them are as they were, in both.
- * Refuses: KIND_OR_SHIFT (the shift), SIZE, LENGTH (also for more than 65,536 places), TOO_MANY_CANDIDATES. After
+ * Refuses: KIND_OR_SHIFT (shift and reducing), SIZE, LENGTH (also for more than 65,536 places), TOO_MANY_CANDIDATES. After
  * TOO_MANY_CANDIDATES all of places is 0; oklab and what is behind count are as they were.
  */
-uint32_t badge_candidate_colors_in(uint32_t shift, uint32_t width, uint32_t height,
+uint32_t badge_candidate_colors_in(uint32_t shift, uint32_t reducing, uint32_t width, uint32_t height,
                                    const uint8_t *reduction, badge_length reduction_len,
                                    const uint8_t *scale, badge_length scale_len,
-                                   const uint8_t *pixels, badge_length pixels_len, uint8_t *places, badge_length places_len,
+                                   const uint8_t *pixels, badge_length pixels_len,
+                                   const uint8_t *opaque, badge_length opaque_len, uint8_t *places, badge_length places_len,
                                    float *oklab, badge_length oklab_len, uint32_t *count);
 
 /*
@@ -212,18 +240,18 @@ uint32_t badge_candidate_colors_in(uint32_t shift, uint32_t width, uint32_t heig
  * diffusing kind the nearest to the colour with the error that earlier pixels passed on to it. A picture without pixels is
  * accepted.
  *
- * Lengths: reduction and scale 256; palette 4 an entry; pixels and out 4 a pixel; indices 1 a pixel; cells 3 a pixel for a
- * diffusing kind, else 0. Only indices, out and cells are written.
+ * Lengths: reduction and scale 256; palette 4 an entry; pixels and out 4 a pixel; opaque 4 a pixel, but 0 with BADGE_BY_ALPHA;
+ * indices 1 a pixel; cells 3 a pixel for a diffusing kind, else 0. Only indices, out and cells are written.
  * Accepts: writes into indices the position of the first entry that equals the colour chosen, and into out that colour,
  * normalised; a transparent pixel gets 0 and four zeros. cells then holds the error that was passed on to each pixel,
  * transparent ones too, in sixteenths.
  * Refuses: KIND_OR_SHIFT, RETIRED_KIND, SIZE, LENGTH, ENTRIES (the palette).
  */
-uint32_t badge_quantize_pixels(uint32_t shift, uint32_t kind, uint32_t width, uint32_t height,
+uint32_t badge_quantize_pixels(uint32_t shift, uint32_t reducing, uint32_t kind, uint32_t width, uint32_t height,
                                const uint8_t *reduction, badge_length reduction_len,
                                const uint8_t *scale, badge_length scale_len,
                                const uint8_t *palette, badge_length palette_len,
-                               const uint8_t *pixels, badge_length pixels_len,
+                               const uint8_t *pixels, badge_length pixels_len, const uint8_t *opaque, badge_length opaque_len,
                                uint8_t *indices, badge_length indices_len, uint8_t *out, badge_length out_len,
                                int16_t *cells, badge_length cells_len);
 
@@ -232,14 +260,15 @@ uint32_t badge_quantize_pixels(uint32_t shift, uint32_t kind, uint32_t width, ui
  * larger one, at column origin_x and row origin_y: patterns are laid over the larger one. Each pixel that is not transparent
  * chooses a candidate as in badge_quantize_pixels, with the limit in the place of the number of entries. Where has_zero is
  * not 0, a pixel whose reduced red, green and blue are those of colour zero (zero_r, zero_g, zero_b; zero_a plays no part)
- * keeps its reduced colour and passes no error on.
+ * keeps its reduced colour and passes no error on. With opaque pixels that is the colour that they reduce to.
  *
  * Tiles of tile_width and tile_height are laid from the picture's corner, numbered row by row from 0; those at the right and
  * lower edge may be cut short. A tile is over its limit if its pixels that are not transparent have more different chosen
  * colours than that.
  *
- * Lengths: reduction and scale 256; pixels and out 4 a pixel; places 4 a place, for 0 to 65,536 of them; oklab 3 a place;
- * cells 3 a pixel for a diffusing kind, else 0. Only places, oklab, out and cells are written.
+ * Lengths: reduction and scale 256; pixels and out 4 a pixel; opaque 4 a pixel, but 0 with BADGE_BY_ALPHA; places 4 a place,
+ * for 0 to 65,536 of them; oklab 3 a place; cells 3 a pixel for a diffusing kind, else 0. Only places, oklab, out and cells are
+ * written.
  * Accepts: writes the candidates to the front of places and oklab, as badge_candidate_colors_in does, the chosen colours,
  * normalised, into out (four zeros for a transparent pixel), and how many candidates there are behind count. cells then holds
  * the error that was passed on to each pixel, transparent ones and those of colour zero too, in sixteenths. What is behind
@@ -248,13 +277,14 @@ uint32_t badge_quantize_pixels(uint32_t shift, uint32_t kind, uint32_t width, ui
  * TILE_OVER. After TOO_MANY_CANDIDATES all of places is 0 and the rest as it was. After TILE_OVER places, oklab and what is
  * behind count are as on acceptance, out and cells are all 0, and the number of the first tile over its limit is behind tile.
  */
-uint32_t badge_dither_to_mode(uint32_t shift, uint32_t kind, uint32_t width, uint32_t height,
+uint32_t badge_dither_to_mode(uint32_t shift, uint32_t reducing, uint32_t kind, uint32_t width, uint32_t height,
                               uint32_t origin_x, uint32_t origin_y, uint32_t tile_width, uint32_t tile_height, uint32_t limit,
                               uint32_t has_zero, uint8_t zero_r, uint8_t zero_g, uint8_t zero_b, uint8_t zero_a,
                               const uint8_t *reduction, badge_length reduction_len,
                               const uint8_t *scale, badge_length scale_len,
-                              const uint8_t *pixels, badge_length pixels_len, uint8_t *places, badge_length places_len,
-                              float *oklab, badge_length oklab_len, uint8_t *out, badge_length out_len,
+                              const uint8_t *pixels, badge_length pixels_len, const uint8_t *opaque, badge_length opaque_len,
+                              uint8_t *places, badge_length places_len, float *oklab, badge_length oklab_len,
+                              uint8_t *out, badge_length out_len,
                               int16_t *cells, badge_length cells_len, uint32_t *count, uint32_t *tile);
 
 /*

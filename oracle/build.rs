@@ -2,8 +2,8 @@
 //! calls the port's archive has.
 //!
 //! The copy is `hooked.rs` in OUT_DIR: the original's text with probes appended
-//! that reach private functions, and with two functions renamed so that lent
-//! tables can answer in their place.
+//! that reach private functions, and with three functions renamed so that lent
+//! tables and lent opaque pixels can answer in their place.
 
 #[path = "build/original.rs"]
 mod original;
@@ -45,13 +45,16 @@ fn renamed(text: &str, opening: &str, name: &str) -> String {
 }
 
 /// The texts with their probes and without the names that these take.
-fn hooked(Texts { color, mode_color, dither }: Texts) -> Texts {
+fn hooked(Texts { color, mode_color, dither, image }: Texts) -> Texts {
+    let mode_color = renamed(&mode_color, "\nfn opaque_threshold(", "opaque_threshold");
     let mode_color = renamed(&mode_color, "\nfn reduce_channel(", "reduce_channel");
     let mode_color = renamed(&mode_color, "\nconst fn scale_up(", "scale_up");
+    let image = renamed(&image, "\n    pub fn color_at(", "color_at");
     Texts {
         color,
         mode_color: mode_color + include_str!("src/probes/mode_color.rs"),
         dither: dither + include_str!("src/probes/dither.rs"),
+        image: image + include_str!("src/probes/image.rs"),
     }
 }
 

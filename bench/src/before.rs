@@ -1,7 +1,7 @@
 //! The port beside an older archive of it, in one run, for a change that must not
 //! make a call slower. The older one needs the C interface as it is now, as far as
 //! the measured calls go; a bracket without positions will do, and so will cells
-//! that are floats.
+//! that are floats and pictures that reduce by alpha alone.
 
 use std::path::{Path, PathBuf};
 
@@ -57,7 +57,14 @@ impl Archives<'_> {
         self.mode_rows(&pictures.photo, "128x128", &KINDS, fewer);
         self.mode_rows(&pictures.smooth, "128x128 smooth", &KINDS, runs);
         self.mode_rows(&pictures.few, "128x128 of 12 colours", &KINDS, runs);
+        let reduces = self.before.names_reductions();
+        if reduces {
+            self.grey_rows(&pictures.photo, runs);
+        }
         self.table.close();
+        if !reduces {
+            println!("left out: modes that reduce to greys or to opaque colours, which are not in the older archive");
+        }
     }
 }
 

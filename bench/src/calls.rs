@@ -8,9 +8,8 @@ use oracle::port::{Port, Rooms};
 
 use crate::color::{ReducedColor, Rgba8888};
 use crate::dither::{self, Dither};
-use crate::mode::Mode;
 use crate::mode::color::ColorRounding;
-use crate::subject::Subject;
+use crate::subject::{Console, Subject};
 
 /// A kind by document 01's number, the original's and our name.
 pub type Kind = (u32, Dither, &'static str);
@@ -64,12 +63,13 @@ pub fn quantize_pixels<'a>(
     let reduced: Vec<ReducedColor> =
         palette.chunks_exact(4).map(|c| ReducedColor(Rgba8888::from_bytes(c.try_into().unwrap()))).collect();
     let (width, height, count) = (subject.width, subject.height, subject.count());
+    let Console { mode, shift, reducing } = subject.console;
     let original = move || {
         let color_at = |i: usize| subject.colors[i];
         let rounding = ColorRounding::Truncate;
-        black_box(dither::quantize_pixels(Mode::Snes, &reduced, width, height, dither, rounding, color_at));
+        black_box(dither::quantize_pixels(mode, &reduced, width, height, dither, rounding, color_at));
     };
-    let case = Quantize { shift: 3, kind, width, height, ..Quantize::default() };
+    let case = Quantize { shift, reducing, kind, width, height, ..Quantize::default() };
     let (mut indices, mut out, mut cells) = (vec![0; count], vec![0; 4 * count], Cells::of(kind, count));
     let ported = move || {
         let number = port.quantize_pixels(&case, subject.read(palette), &mut indices, &mut out, cells.lent());
@@ -85,13 +85,14 @@ pub fn dither_to_mode<'a>(
     (kind, dither, _): Kind,
 ) -> (impl Fn() + 'a, impl FnMut() + 'a) {
     let (count, found, image) = (subject.count(), subject.candidates(), subject.image());
+    let Console { mode, shift, reducing } = subject.console;
     let original = move || {
         let budget = dither::TileBudget { width: 8, height: 8, max_colors: 256 };
-        let drawn = dither::dither_to_mode(&image, Mode::Snes, dither, ColorRounding::Truncate, None, budget);
+        let drawn = dither::dither_to_mode(&image, mode, dither, ColorRounding::Truncate, None, budget);
         assert!(black_box(drawn).is_some());
     };
     let (width, height) = (subject.width, subject.height);
-    let case = ToMode { shift: 3, kind, width, height, tile: [8, 8], limit: 256, ..ToMode::default() };
+    let case = ToMode { shift, reducing, kind, width, height, tile: [8, 8], limit: 256, ..ToMode::default() };
     let (mut places, mut oklab, mut out) = (vec![0; 4 * found], vec![0.0; 3 * found], vec![0; 4 * count]);
     let mut cells = Cells::of(kind, count);
     let ported = move || {
@@ -103,16 +104,17 @@ pub fn dither_to_mode<'a>(
 }
 
 pub fn candidate_colors_in<'a>(port: &'a impl Port, subject: &'a Subject) -> (impl Fn() + 'a, impl FnMut() + 'a) {
-    let image = subject.image();
+    let (image, mode) = (subject.image(), subject.console.mode);
     let original = move || {
-        black_box(dither::candidate_colors_in(&image, Mode::Snes, ColorRounding::Truncate));
+        black_box(dither::candidate_colors_in(&image, mode, ColorRounding::Truncate));
     };
     (original, collect(port, subject, subject.candidates()))
 }
 
 /// A port's way, with places for just as many candidates as are found.
 pub fn collect<'a>(port: &'a impl Port, subject: &'a Subject, found: usize) -> impl FnMut() + 'a {
-    let case = Candidates { shift: 3, width: subject.width, height: subject.height, ..Candidates::default() };
+    let Subject { width, height, console: Console { shift, reducing, .. }, .. } = *subject;
+    let case = Candidates { shift, reducing, width, height, ..Candidates::default() };
     let (mut places, mut oklab) = (vec![0; 4 * found], vec![0.0; 3 * found]);
     move || {
         let number = port.candidate_colors_in(&case, subject.read(&[]), &mut places, &mut oklab, &mut 0);

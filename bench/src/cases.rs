@@ -6,9 +6,12 @@ use oracle::port::Port;
 
 use crate::calls::{self, ATKINSON, BAYER, FLOYD_STEINBERG, Kind, OFF};
 use crate::lookups::{self, Asked};
-use crate::subject::{Pictures, Subject, entries_of, palette};
+use crate::subject::{GB, NGP, Pictures, SMS, Subject, entries_of, greys, palette};
 
 pub const KINDS: [Kind; 4] = [OFF, BAYER, ATKINSON, FLOYD_STEINBERG];
+
+/// A kind of each way to choose.
+const EACH: [Kind; 3] = [OFF, BAYER, FLOYD_STEINBERG];
 
 /// A row, as it is asked for.
 pub struct Row {
@@ -56,11 +59,14 @@ pub trait Cases<'a> {
     fn row<O: Fn(), P: FnMut()>(&mut self, row: Row, both: impl Fn(&'a Self::Port) -> (O, P));
 
     fn quantize_rows(&mut self, subject: &Subject, what: &str, entries: usize, kinds: &[Kind], runs: usize) {
-        let palette = palette(entries);
+        self.palette_rows(subject, what, &palette(entries), kinds, runs);
+    }
+
+    fn palette_rows(&mut self, subject: &Subject, what: &str, palette: &[u8], kinds: &[Kind], runs: usize) {
         for &kind in kinds {
-            let name = format!("quantize_pixels {what}, {}, {}", entries_of(entries), kind.2);
+            let name = format!("quantize_pixels {what}, {}, {}", entries_of(palette.len() / 4), kind.2);
             let row = Row { call: Call::QuantizePixels, name, count: subject.count(), runs };
-            self.row(row, |port| calls::quantize_pixels(port, subject, &palette, kind));
+            self.row(row, |port| calls::quantize_pixels(port, subject, palette, kind));
         }
     }
 
@@ -101,6 +107,20 @@ pub trait Cases<'a> {
         for (subject, what) in [(photo, "128x128"), (few, "128x128 of 12 colours")] {
             self.quantize_rows(subject, what, 16, &KINDS, runs);
             self.quantize_rows(subject, what, 256, &KINDS, runs);
+        }
+    }
+
+    /// Modes that reduce to greys or to opaque colours, with their opaque pixels lent. Ws
+    /// is reduced as Ngp is.
+    fn grey_rows(&mut self, photo: &Subject, runs: usize) {
+        let [gb, ngp, sms] = [GB, NGP, SMS].map(|console| photo.to(console));
+        for (subject, what) in [(&gb, "128x128 to Gb"), (&ngp, "128x128 to Ngp"), (&sms, "128x128 to Sms")] {
+            self.candidate_row(subject, what, runs);
+        }
+        self.palette_rows(&gb, "128x128 to Gb", &greys(4), &EACH, runs);
+        self.palette_rows(&ngp, "128x128 to Ngp", &greys(8), &EACH, runs);
+        for (subject, what) in [(&gb, "128x128 to Gb"), (&ngp, "128x128 to Ngp"), (&sms, "128x128 to Sms")] {
+            self.mode_rows(subject, what, &EACH, runs);
         }
     }
 }

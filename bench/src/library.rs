@@ -23,18 +23,82 @@ mod c {
         Bytes, usize, Bytes, usize, Floats, usize, u8, u8, u8, u64, *mut u8, usize, *mut u8, usize, *mut f32,
         *mut u32, *mut u32,
     ) -> u32;
+    pub type BracketWidth = unsafe extern "C" fn(u32, u64, *mut u64) -> u32;
     pub type CandidateColorsIn = unsafe extern "C" fn(
-        u32, u32, u32, Bytes, usize, Bytes, usize, Bytes, usize, *mut u8, usize, *mut f32, usize, *mut u32,
+        u32, u32, u32, u32, Bytes, usize, Bytes, usize, Bytes, usize, Bytes, usize,
+        *mut u8, usize, *mut f32, usize, *mut u32,
     ) -> u32;
     pub type QuantizePixels = unsafe extern "C" fn(
-        u32, u32, u32, u32, Bytes, usize, Bytes, usize, Bytes, usize, Bytes, usize,
+        u32, u32, u32, u32, u32, Bytes, usize, Bytes, usize, Bytes, usize, Bytes, usize, Bytes, usize,
         *mut u8, usize, *mut u8, usize, *mut i16, usize,
     ) -> u32;
     pub type DitherToMode = unsafe extern "C" fn(
-        u32, u32, u32, u32, u32, u32, u32, u32, u32, u32, u8, u8, u8, u8,
-        Bytes, usize, Bytes, usize, Bytes, usize,
+        u32, u32, u32, u32, u32, u32, u32, u32, u32, u32, u32, u8, u8, u8, u8,
+        Bytes, usize, Bytes, usize, Bytes, usize, Bytes, usize,
         *mut u8, usize, *mut f32, usize, *mut u8, usize, *mut i16, usize, *mut u32, *mut u32,
     ) -> u32;
+
+    pub mod by_alpha {
+        //! The calls on pictures before request 5: none names a reduction, and none is
+        //! lent opaque pixels.
+
+        use super::Bytes;
+
+        pub type CandidateColorsIn = unsafe extern "C" fn(
+            u32, u32, u32, Bytes, usize, Bytes, usize, Bytes, usize, *mut u8, usize, *mut f32, usize, *mut u32,
+        ) -> u32;
+        pub type QuantizePixels = unsafe extern "C" fn(
+            u32, u32, u32, u32, Bytes, usize, Bytes, usize, Bytes, usize, Bytes, usize,
+            *mut u8, usize, *mut u8, usize, *mut i16, usize,
+        ) -> u32;
+        pub type DitherToMode = unsafe extern "C" fn(
+            u32, u32, u32, u32, u32, u32, u32, u32, u32, u32, u8, u8, u8, u8,
+            Bytes, usize, Bytes, usize, Bytes, usize,
+            *mut u8, usize, *mut f32, usize, *mut u8, usize, *mut i16, usize, *mut u32, *mut u32,
+        ) -> u32;
+    }
+}
+
+/// The calls on pictures, as they are, or as they were before request 5: these are put
+/// pictures that reduce by alpha alone.
+enum Pictures {
+    Reducing {
+        candidate_colors_in: c::CandidateColorsIn,
+        quantize_pixels: c::QuantizePixels,
+        dither_to_mode: c::DitherToMode,
+    },
+    ByAlpha {
+        candidate_colors_in: c::by_alpha::CandidateColorsIn,
+        quantize_pixels: c::by_alpha::QuantizePixels,
+        dither_to_mode: c::by_alpha::DitherToMode,
+    },
+}
+
+impl Pictures {
+    /// # Safety
+    ///
+    /// The library's functions are those of the C header, now or before request 5.
+    unsafe fn of(loaded: &Loaded) -> Result<Pictures, String> {
+        let [candidates, quantize, to_mode] =
+            ["badge_candidate_colors_in", "badge_quantize_pixels", "badge_dither_to_mode"];
+        // SAFETY: as the caller says. A library accepts shift 6 as a width's since
+        // request 5, with which the calls on pictures took their types of now.
+        unsafe {
+            let bracket_width: c::BracketWidth = loaded.function("badge_bracket_width")?;
+            if bracket_width(6, 16, &mut 0) == 0 {
+                return Ok(Pictures::Reducing {
+                    candidate_colors_in: loaded.function(candidates)?,
+                    quantize_pixels: loaded.function(quantize)?,
+                    dither_to_mode: loaded.function(to_mode)?,
+                });
+            }
+            Ok(Pictures::ByAlpha {
+                candidate_colors_in: loaded.function(candidates)?,
+                quantize_pixels: loaded.function(quantize)?,
+                dither_to_mode: loaded.function(to_mode)?,
+            })
+        }
+    }
 }
 
 /// The calls that are measured.
@@ -43,9 +107,7 @@ pub struct Library {
     nearest: c::Nearest,
     nearest_two: c::NearestTwo,
     ordered_bracket: c::OrderedBracket,
-    candidate_colors_in: c::CandidateColorsIn,
-    quantize_pixels: c::QuantizePixels,
-    dither_to_mode: c::DitherToMode,
+    pictures: Pictures,
 }
 
 impl Library {
@@ -61,11 +123,15 @@ impl Library {
                 nearest: loaded.function("badge_nearest")?,
                 nearest_two: loaded.function("badge_nearest_two")?,
                 ordered_bracket: loaded.function("badge_ordered_bracket")?,
-                candidate_colors_in: loaded.function("badge_candidate_colors_in")?,
-                quantize_pixels: loaded.function("badge_quantize_pixels")?,
-                dither_to_mode: loaded.function("badge_dither_to_mode")?,
+                pictures: Pictures::of(loaded)?,
             })
         }
+    }
+
+    /// Whether its calls on pictures name their reduction, so that there are others than
+    /// by alpha.
+    pub fn names_reductions(&self) -> bool {
+        matches!(self.pictures, Pictures::Reducing { .. })
     }
 }
 
@@ -122,38 +188,64 @@ impl Port for Library {
     fn candidate_colors_in(
         &self, case: &Candidates, read: Read, places: &mut [u8], oklab: &mut [f32], count: &mut u32,
     ) -> u32 {
-        let Candidates { shift, width, height, .. } = *case;
+        let Candidates { shift, reducing, width, height, .. } = *case;
         unsafe {
-            put!(
-                self.candidate_colors_in,
-                (shift, width, height) [read.reduction] [read.scale] [read.pixels] [mut places] [mut oklab] (count)
-            )
+            match &self.pictures {
+                Pictures::Reducing { candidate_colors_in, .. } => put!(
+                    candidate_colors_in,
+                    (shift, reducing, width, height) [read.reduction] [read.scale] [read.pixels] [read.opaque]
+                    [mut places] [mut oklab] (count)
+                ),
+                Pictures::ByAlpha { candidate_colors_in, .. } => put!(
+                    candidate_colors_in,
+                    (shift, width, height) [read.reduction] [read.scale] [read.pixels]
+                    [mut places] [mut oklab] (count)
+                ),
+            }
         }
     }
 
     fn quantize_pixels(
         &self, case: &Quantize, read: Read, indices: &mut [u8], out: &mut [u8], cells: &mut [i16],
     ) -> u32 {
-        let Quantize { shift, kind, width, height, .. } = *case;
+        let Quantize { shift, reducing, kind, width, height, .. } = *case;
         unsafe {
-            put!(
-                self.quantize_pixels,
-                (shift, kind, width, height)
-                [read.reduction] [read.scale] [read.palette] [read.pixels] [mut indices] [mut out] [mut cells]
-            )
+            match &self.pictures {
+                Pictures::Reducing { quantize_pixels, .. } => put!(
+                    quantize_pixels,
+                    (shift, reducing, kind, width, height)
+                    [read.reduction] [read.scale] [read.palette] [read.pixels] [read.opaque]
+                    [mut indices] [mut out] [mut cells]
+                ),
+                Pictures::ByAlpha { quantize_pixels, .. } => put!(
+                    quantize_pixels,
+                    (shift, kind, width, height)
+                    [read.reduction] [read.scale] [read.palette] [read.pixels] [mut indices] [mut out] [mut cells]
+                ),
+            }
         }
     }
 
     fn dither_to_mode(&self, case: &ToMode, read: Read, rooms: Rooms, count: &mut u32, tile: &mut u32) -> u32 {
-        let ToMode { shift, kind, width, height, limit, has_zero, .. } = *case;
+        let ToMode { shift, reducing, kind, width, height, limit, has_zero, .. } = *case;
         let ([left, top], [tile_width, tile_height], [r, g, b, a]) = (case.origin, case.tile, case.zero);
         unsafe {
-            put!(
-                self.dither_to_mode,
-                (shift, kind, width, height, left, top, tile_width, tile_height, limit, has_zero, r, g, b, a)
-                [read.reduction] [read.scale] [read.pixels]
-                [mut rooms.places] [mut rooms.oklab] [mut rooms.out] [mut rooms.cells] (count, tile)
-            )
+            match &self.pictures {
+                Pictures::Reducing { dither_to_mode, .. } => put!(
+                    dither_to_mode,
+                    (shift, reducing, kind, width, height, left, top, tile_width, tile_height, limit)
+                    (has_zero, r, g, b, a)
+                    [read.reduction] [read.scale] [read.pixels] [read.opaque]
+                    [mut rooms.places] [mut rooms.oklab] [mut rooms.out] [mut rooms.cells] (count, tile)
+                ),
+                Pictures::ByAlpha { dither_to_mode, .. } => put!(
+                    dither_to_mode,
+                    (shift, kind, width, height, left, top, tile_width, tile_height, limit)
+                    (has_zero, r, g, b, a)
+                    [read.reduction] [read.scale] [read.pixels]
+                    [mut rooms.places] [mut rooms.oklab] [mut rooms.out] [mut rooms.cells] (count, tile)
+                ),
+            }
         }
     }
 

@@ -81,6 +81,7 @@ impl Table<'_> {
         self.mode_rows(&Subject::repeated(4), "128x136 each colour four times", &[BAYER], runs.min(5));
         self.mode_rows(&pictures.smooth, "128x128 smooth", &KINDS, runs);
         self.mode_rows(&pictures.few, "128x128 of 12 colours", &KINDS, runs);
+        self.grey_rows(&pictures.photo, runs);
     }
 
     /// What stands below the table: the least ratios, and what was left out.

@@ -1,7 +1,9 @@
-//! The pictures that are measured, and palettes for them.
+//! The pictures that are measured, the modes that they are drawn for, and palettes
+//! for them.
 
 use oracle::case::LentTables;
-use oracle::original::own_tables;
+use oracle::model::{BY_ALPHA, GREY, OPAQUE_COLOR};
+use oracle::original::{own_opaque, own_tables};
 use oracle::port::Read;
 use oracle::rng::Rng;
 
@@ -11,12 +13,27 @@ use crate::image::Image;
 use crate::mode::Mode;
 use crate::mode::color::ColorRounding;
 
-/// A picture and the tables it is drawn with.
+/// A mode of the original, and how a port is told of it.
+#[derive(Clone, Copy)]
+pub struct Console {
+    pub mode: Mode,
+    pub shift: u32,
+    pub reducing: u32,
+}
+
+const SNES: Console = Console { mode: Mode::Snes, shift: 3, reducing: BY_ALPHA };
+pub const GB: Console = Console { mode: Mode::Gb, shift: 6, reducing: GREY };
+pub const NGP: Console = Console { mode: Mode::Ngp, shift: 5, reducing: GREY };
+pub const SMS: Console = Console { mode: Mode::Sms, shift: 6, reducing: OPAQUE_COLOR };
+
+/// A picture, the mode that it is drawn for, and what is lent for that.
 pub struct Subject {
     pub width: u32,
     pub height: u32,
     pub pixels: Vec<u8>,
     pub colors: Vec<NormalizedColor>,
+    pub console: Console,
+    opaque: Vec<u8>,
     tables: LentTables,
 }
 
@@ -42,7 +59,16 @@ fn shuffle(pixels: &mut [[u8; 4]]) {
 impl Subject {
     fn new(width: u32, height: u32, pixels: Vec<u8>) -> Subject {
         let colors = pixels.chunks_exact(4).map(normalized).collect();
-        Subject { width, height, colors, pixels, tables: (&own_tables(3, false)).into() }
+        let tables = (&own_tables(SNES.shift, false)).into();
+        Subject { width, height, colors, pixels, console: SNES, opaque: Vec::new(), tables }
+    }
+
+    /// The same picture for a mode that is lent opaque pixels.
+    pub fn to(&self, console: Console) -> Subject {
+        let opaque = own_opaque(&self.pixels);
+        let tables = (&own_tables(console.shift, false)).into();
+        let (pixels, colors) = (self.pixels.clone(), self.colors.clone());
+        Subject { width: self.width, height: self.height, pixels, colors, console, opaque, tables }
     }
 
     /// Noise over a range, around a gradient: like a photograph, with most of
@@ -119,7 +145,8 @@ impl Subject {
     }
 
     pub fn read<'a>(&'a self, palette: &'a [u8]) -> Read<'a> {
-        Read { reduction: &self.tables.reduction, scale: &self.tables.scale, palette, pixels: &self.pixels }
+        let LentTables { reduction, scale } = &self.tables;
+        Read { reduction, scale, palette, pixels: &self.pixels, opaque: &self.opaque }
     }
 
     pub fn image(&self) -> Image {
@@ -136,7 +163,7 @@ impl Subject {
     }
 
     pub fn candidates(&self) -> usize {
-        dither::candidate_colors_in(&self.image(), Mode::Snes, ColorRounding::Truncate).len()
+        dither::candidate_colors_in(&self.image(), self.console.mode, ColorRounding::Truncate).len()
     }
 }
 
@@ -164,6 +191,11 @@ pub fn colors() -> Vec<[u8; 3]> {
 pub fn palette(entries: usize) -> Vec<u8> {
     let mut rng = Rng::new(3);
     (0..entries).flat_map(|_| [rng.byte() & 31, rng.byte() & 31, rng.byte() & 31, 255]).collect()
+}
+
+/// All greys of a mode that reduces to so many.
+pub fn greys(count: u8) -> Vec<u8> {
+    (0..count).flat_map(|grey| [grey, grey, grey, 255]).collect()
 }
 
 /// How a palette's length is told.

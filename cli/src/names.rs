@@ -1,17 +1,32 @@
-//! The original's modes and kinds, under its names, and which of the kinds are
-//! retired.
+//! The original's modes and kinds, under its names: how each mode reduces, and
+//! which of the kinds are retired.
+
+/// How a mode reduces a pixel, with the library's numbers. Grey and opaque
+/// colour have no transparent pixels: one whose alpha is below 128 reduces to
+/// black.
+#[derive(Clone, Copy, Debug, PartialEq, Eq)]
+pub enum Reducing {
+    ByAlpha = 0,
+    Grey = 1,
+    OpaqueColor = 2,
+}
 
 pub struct Mode {
     pub name: &'static str,
     pub shift: u32,
+    pub reducing: Reducing,
 }
 
 const fn mode(name: &'static str, shift: u32) -> Mode {
-    Mode { name, shift }
+    Mode { name, shift, reducing: Reducing::ByAlpha }
 }
 
-/// The modes that are drawn, in the order of the scope document.
-pub const MODES: [Mode; 12] = [
+const fn grey(name: &'static str, shift: u32) -> Mode {
+    Mode { name, shift, reducing: Reducing::Grey }
+}
+
+/// All modes, in the order of their shifts.
+pub const MODES: [Mode; 16] = [
     mode("snes", 3),
     mode("snes-mode7", 3),
     mode("gbc", 3),
@@ -24,10 +39,11 @@ pub const MODES: [Mode; 12] = [
     mode("md", 5),
     mode("pce", 5),
     mode("pce-sprite", 5),
+    grey("ngp", 5),
+    grey("ws", 5),
+    grey("gb", 6),
+    Mode { name: "sms", shift: 6, reducing: Reducing::OpaqueColor },
 ];
-
-/// Modes of the original that are not ported.
-pub const LEFT_OUT: [&str; 4] = ["gb", "sms", "ngp", "ws"];
 
 /// A kind; its number is its place in the list.
 pub struct Kind {

@@ -1,6 +1,6 @@
 //! The options that several subcommands take, and their values.
 
-use crate::names::{KINDS, LEFT_OUT, MODES, Mode, drawn_kinds, same};
+use crate::names::{KINDS, MODES, Mode, drawn_kinds, same};
 use crate::tables::{ModeTables, Rounding};
 use crate::trouble::{Trouble, shown};
 use crate::words::{Choice, Words, nearest};
@@ -46,9 +46,6 @@ fn unknown<'a>(what: &str, word: &str, names: impl Iterator<Item = &'a str>) -> 
 
 fn mode(words: &Words) -> Result<&'static Mode, Trouble> {
     let word = text(words, &MODE, "snes")?;
-    if LEFT_OUT.iter().any(|name| same(word, name)) {
-        return Err(Trouble::usage(format!("the mode {word} is not drawn: ./badge modes lists those that are")));
-    }
     let found = MODES.iter().find(|mode| same(word, mode.name));
     found.ok_or_else(|| unknown("mode", word, MODES.iter().map(|mode| mode.name)))
 }

@@ -1,8 +1,9 @@
 //! The library's calls, with the buffers that they are lent.
 
 use badge_dither::pam::Image;
-use badge_dither::{Output, Picture, ReducedColor, Refusal, Rooms, Settings, Tables, kind};
+use badge_dither::{Output, Picture, ReducedColor, Reducing, Refusal, Rooms, Settings, Tables, kind};
 
+use crate::names;
 use crate::options::Console;
 use crate::tables::ModeTables;
 
@@ -20,6 +21,23 @@ pub struct Frame {
 
 fn lent(tables: &ModeTables) -> Tables<'_> {
     Tables { reduction: &tables.reduction, scale: &tables.scale }
+}
+
+/// The opaque pixels of a picture, as the original has them; its mode may need
+/// none.
+fn opaque(console: &Console, picture: Picture) -> Vec<u8> {
+    match console.mode.reducing {
+        names::Reducing::ByAlpha => Vec::new(),
+        _ => badge_dither::opaque_threshold(picture.pixels),
+    }
+}
+
+fn reducing<'a>(console: &Console, opaque: &'a [u8]) -> Reducing<'a> {
+    match console.mode.reducing {
+        names::Reducing::ByAlpha => Reducing::ByAlpha,
+        names::Reducing::Grey => Reducing::Grey(opaque),
+        names::Reducing::OpaqueColor => Reducing::OpaqueColor(opaque),
+    }
 }
 
 /// Rooms for as many candidates as a picture can have: no more than it has
@@ -50,8 +68,10 @@ fn drawn_into(picture: Picture, pixels: Vec<u8>) -> Image {
 
 /// The mode pass.
 pub fn draw(console: &Console, kind: u32, frame: &Frame, picture: Picture) -> Result<Image, Refusal> {
+    let opaque = opaque(console, picture);
     let settings = Settings {
         shift: console.mode.shift,
+        reducing: reducing(console, &opaque),
         kind,
         origin: frame.origin,
         tile: frame.tile,
@@ -70,8 +90,9 @@ pub fn quantize(console: &Console, kind: u32, palette: &[u8], picture: Picture) 
     let count = picture.pixels.len() / 4;
     let (mut indices, mut out, mut cells) = (vec![0; count], vec![0; 4 * count], cells(kind, count));
     let output = Output { out: &mut out, cells: &mut cells };
-    let tables = lent(&console.tables);
-    badge_dither::quantize_pixels(console.mode.shift, kind, picture, tables, palette, &mut indices, output)?;
+    let (opaque, tables) = (opaque(console, picture), lent(&console.tables));
+    let (shift, reducing) = (console.mode.shift, reducing(console, &opaque));
+    badge_dither::quantize_pixels(shift, reducing, kind, picture, tables, palette, &mut indices, output)?;
     Ok((drawn_into(picture, out), indices))
 }
 
@@ -82,11 +103,16 @@ pub fn transparent(console: &Console, picture: Picture) -> Result<Vec<bool>, Ref
     Ok(drawn.pixels.chunks_exact(4).map(|pixel| pixel[3] == 0).collect())
 }
 
+fn candidates(console: &Console, picture: Picture, rooms: Rooms) -> Result<usize, Refusal> {
+    let opaque = opaque(console, picture);
+    let (shift, reducing) = (console.mode.shift, reducing(console, &opaque));
+    badge_dither::candidate_colors_in(shift, reducing, picture, lent(&console.tables), rooms)
+}
+
 /// How many different reduced colours a picture has, transparent pixels left
 /// out.
 pub fn colors(console: &Console, picture: Picture) -> Result<usize, Refusal> {
-    let mut places = Places::new(console.mode.shift, picture);
-    badge_dither::candidate_colors_in(console.mode.shift, picture, lent(&console.tables), places.rooms())
+    candidates(console, picture, Places::new(console.mode.shift, picture).rooms())
 }
 
 /// A colour as the mode reduces it: the one candidate of a picture that has it
@@ -94,8 +120,7 @@ pub fn colors(console: &Console, picture: Picture) -> Result<usize, Refusal> {
 pub fn reduced(console: &Console, color: &[u8]) -> Result<ReducedColor, Refusal> {
     let picture = Picture { width: 1, height: 1, pixels: color };
     let (mut place, mut oklab) = ([0; 4], [0.0; 3]);
-    let rooms = Rooms { places: &mut place, oklab: &mut oklab };
-    badge_dither::candidate_colors_in(console.mode.shift, picture, lent(&console.tables), rooms)?;
+    candidates(console, picture, Rooms { places: &mut place, oklab: &mut oklab })?;
     // A transparent pixel gives no candidate, and the place stays as it was.
     Ok(ReducedColor(place))
 }

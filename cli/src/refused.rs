@@ -78,6 +78,7 @@ pub fn writing(refusal: Refusal, name: &OsStr, [width, height]: [u32; 2]) -> Tro
 fn passing(refusal: Refusal, kind: u32, picture: Picture) -> String {
     let (width, height) = (picture.width, picture.height);
     match refusal {
+        // It is not the shift: each mode's goes with its reduction.
         Refusal::KindOrShift => format!("kind {kind} is none of 0 to 10"),
         Refusal::RetiredKind => retired(kind),
         Refusal::Size => format!("{width}x{height} is more than 4096 on a side or 1048576 pixels"),

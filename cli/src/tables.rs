@@ -37,7 +37,8 @@ fn scale_up(value: u32, shift: u32) -> u8 {
     let scaled = match shift {
         3 => value << 3 | value >> 2,
         4 => value << 4 | value,
-        _ => value << 5 | value << 2 | value >> 1 | value >> 4,
+        5 => value << 5 | value << 2 | value >> 1 | value >> 4,
+        _ => value << 6 | value << 4 | value << 2 | value,
     };
     scaled as u8
 }

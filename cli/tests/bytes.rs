@@ -51,7 +51,7 @@ fn file(rng: &mut Rng) -> Vec<u8> {
     }
 }
 
-const COMMANDS: [&str; 10] = [
+const COMMANDS: [&str; 14] = [
     "draw in.pam out",
     "draw - out",
     "info in.pam",
@@ -62,6 +62,10 @@ const COMMANDS: [&str; 10] = [
     "quantize --palette fine.pam in.pam out",
     "quantize --palette in.pam fine.pam out",
     "quantize --palette - in.pam out",
+    "draw --mode gb in.pam out",
+    "info --mode sms in.pam",
+    "gallery --mode ngp --palette in.pam fine.pam out",
+    "quantize --mode ws --palette in.pam fine.pam out",
 ];
 
 #[test]

@@ -46,6 +46,9 @@ fn every_kind_on_a_panel_of_its_own() {
     let folder = Folder::with(&[("in.pam", noise(7, 16, 8, true)), ("five.pam", noise(8, 5, 1, false))]);
     let passes = "
         --mode md --palette five.pam => quantize
+        --mode gb --rounding nearest --palette five.pam => quantize
+        --mode ws --origin 1,2 --zero 102030 => draw
+        --mode sms --limit 64 --origin 3,1 => draw
         --mode gg --rounding nearest --limit 256 --origin 1,2 --zero 102030 => draw";
     for (options, command) in table(passes) {
         let ran = folder.badge(&format!("gallery {options} in.pam sheet.pam"));
@@ -66,18 +69,21 @@ fn every_kind_on_a_panel_of_its_own() {
 
 #[test]
 fn a_tile_over_its_limit_is_shown_and_marked() {
-    // Four colours in the second of two tiles.
-    let odd = |x, y| if x >= 8 && y < 4 && x - 8 == y { [66 * y as u8, 0, 0, 255] } else { [0, 0, 0, 255] };
-    let folder = Folder::with(&[("in.pam", painted(16, 8, odd))]);
-    folder.badge("gallery --limit 3 in.pam sheet.pam").bytes();
-    let sheet = folder.image("sheet.pam");
-    assert!(shows(&sheet, 1, TWO_LINES, &folder.image("in.pam")), "the kind off changes none of these colours");
-    let red = |color: &[u8; 4]| color[0] > 200 && color[1] < 50;
-    let marked = [0, 1].map(|place| text(&sheet, place, TWO_LINES, 1).iter().filter(|color| red(color)).count());
-    assert!(marked[0] == 0 && marked[1] > 50, "the tile is named below its panel: {marked:?}");
-    let [left, top] = corner(1, TWO_LINES);
-    let edges = [left - 1, left + PANEL[0] / 2 - 1, left + PANEL[0]].map(|x| red(&pixel(&sheet, [x, top + 5])));
-    assert_eq!(edges, [false, true, true], "the second tile is framed");
+    // Four greys of the mode in the second of two tiles.
+    for (mode, step) in [("snes", 66), ("ngp", 73), ("gb", 85), ("sms", 85)] {
+        let level = |x, y| if x >= 8 && y < 4 && x - 8 == y { step * y as u8 } else { 0 };
+        let odd = |x, y| [[level(x, y); 3].as_slice(), &[255]].concat().try_into().unwrap();
+        let folder = Folder::with(&[("in.pam", painted(16, 8, odd))]);
+        folder.badge(&format!("gallery --mode {mode} --limit 3 in.pam sheet.pam")).bytes();
+        let sheet = folder.image("sheet.pam");
+        assert!(shows(&sheet, 1, TWO_LINES, &folder.image("in.pam")), "the kind off changes none of these colours");
+        let red = |color: &[u8; 4]| color[0] > 200 && color[1] < 50;
+        let marked = [0, 1].map(|place| text(&sheet, place, TWO_LINES, 1).iter().filter(|color| red(color)).count());
+        assert!(marked[0] == 0 && marked[1] > 50, "the tile is named below its panel: {marked:?}");
+        let [left, top] = corner(1, TWO_LINES);
+        let edges = [left - 1, left + PANEL[0] / 2 - 1, left + PANEL[0]].map(|x| red(&pixel(&sheet, [x, top + 5])));
+        assert_eq!(edges, [false, true, true], "the second tile is framed");
+    }
 }
 
 #[test]

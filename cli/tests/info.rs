@@ -59,6 +59,24 @@ fn options_count() {
 }
 
 #[test]
+fn modes_without_transparent_pixels() {
+    // The pixel that is transparent in other modes has a colour more, and reduces to black.
+    let cases = "
+        gb => colours 23, and 2 in mode gb / tiles of 8x8 4; most in tile 2 (column 0, row 1): 2 colours
+        ngp => colours 23, and 3 in mode ngp / tiles of 8x8 4; most in tile 2 (column 0, row 1): 3 colours
+        ws => colours 23, and 3 in mode ws / tiles of 8x8 4; most in tile 2 (column 0, row 1): 3 colours
+        sms => colours 23, and 3 in mode sms / tiles of 8x8 4; most in tile 2 (column 0, row 1): 2 colours";
+    let folder = Folder::with(&[("clear.pam", painted(1, 1, |_, _| [1, 2, 3, 0]))]);
+    for (mode, said) in table(cases) {
+        let lines = told(&folder, &format!("info --mode {mode} -"));
+        assert_eq!(lines[1..4].join(" / "), format!("transparent 0 pixels / {said}"));
+        let lines = told(&folder, &format!("info --mode {mode} --limit 0 clear.pam"));
+        let said = format!("transparent 0 pixels / colours 1, and 1 in mode {mode}");
+        assert_eq!((lines[1..3].join(" / "), lines[4].as_str()), (said, "over 0 colours 1 tile: 0"));
+    }
+}
+
+#[test]
 fn ranges_and_a_picture_without_colours() {
     let pixels = [0, 255, 0, 0, 0, 255, 255, 0, 0, 0].map(|v| [v; 3]);
     let folder = Folder::with(&[("in.pam", rgb(10, &pixels)), ("clear.pam", painted(1, 1, |_, _| [1, 2, 3, 0]))]);

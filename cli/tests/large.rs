@@ -1,8 +1,8 @@
-//! The largest square, by every kind.
+//! The largest square, by every kind and in modes of each reduction.
 
 mod common;
 
-use common::expected::DRAWN;
+use common::expected::{DRAWN, WITHOUT_ALPHA};
 use common::{Folder, painted, rgba};
 
 /// 1024x1024 pixels, whose 65,536 colours are 1,024 after reduction.
@@ -36,4 +36,17 @@ fn drawn_by_every_kind() {
 #[test]
 fn quantized_by_every_kind() {
     every_kind("quantize --palette palette.pam");
+}
+
+#[test]
+fn drawn_in_modes_without_transparent_pixels() {
+    let folder = folder();
+    for mode in WITHOUT_ALPHA {
+        let said = folder.badge(&format!("draw --mode {mode} in.pam out.pam"));
+        assert_eq!(said.said(), format!("out.pam: 1024x1024, {mode}, floyd-steinberg\n"));
+        let image = folder.image("out.pam");
+        assert_eq!((image.width, image.height, image.pixels.len()), (1024, 1024, 4 << 20));
+        assert!(image.pixels.chunks(4).all(|pixel| pixel[3] == 255), "{mode}");
+        assert!(image.pixels.chunks(4).any(|pixel| pixel != &image.pixels[..4]), "{mode}");
+    }
 }

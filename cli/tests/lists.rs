@@ -13,8 +13,9 @@ fn said(words: &str) -> String {
 
 #[test]
 fn modes_and_kinds_with_their_numbers() {
-    let lines = modes().map(|(mode, shift)| format!("{mode} {shift} {}\n", 256 >> shift));
-    assert_eq!(said("modes"), format!("mode shift levels a channel\n{}", lines.collect::<String>()));
+    let lines = modes().map(|mode| format!("{} {} {} {}\n", mode.name, mode.shift, 256 >> mode.shift, mode.reduction));
+    let last = "grey, opaque colour: no pixel is transparent, and one whose alpha is below 128 reduces to black\n";
+    assert_eq!(said("modes"), format!("mode shift levels a channel reduction\n{}{last}", lines.collect::<String>()));
     let lines = "number kind or\n0 off\n1 bayer-2x2 bayer2\n2 bayer-4x4 bayer4\n3 bayer-8x8 bayer8\n4 checker\n\
                  7 line-v line_v\n8 line-h line_h\n9 atkinson\n10 floyd-steinberg fs\n\
                  retired, refused with 15: 5 stipple-v, 6 stipple-h\n";

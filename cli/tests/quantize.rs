@@ -2,7 +2,7 @@
 
 mod common;
 
-use common::expected::{Console, DRAWN, modes};
+use common::expected::{Console, DRAWN, WITHOUT_ALPHA, modes};
 use common::{Folder, noise, painted, rgb, rgba};
 
 const BLACK: [u8; 4] = [0, 0, 0, 255];
@@ -40,14 +40,43 @@ fn entries_are_reduced_and_go_row_by_row() {
 fn every_mode_and_kind_is_the_librarys() {
     let folder = Folder::with(&[("in.pam", noise(4, 20, 17, true)), ("palette.pam", noise(5, 3, 4, true))]);
     let (image, palette) = (folder.image("in.pam"), folder.image("palette.pam"));
-    for ((mode, shift), rounding) in modes().zip(["nearest", "truncate"].into_iter().cycle()) {
-        let console = Console::new(shift, rounding);
-        for kind in DRAWN {
-            let options = format!("--mode {mode} --kind {kind} --rounding {rounding} --indices i");
+    for mode in modes() {
+        for (kind, rounding) in DRAWN.into_iter().zip(["nearest", "truncate"].into_iter().cycle()) {
+            let console = Console::new(mode, rounding);
+            let options = format!("--mode {} --kind {kind} --rounding {rounding} --indices i", mode.name);
             folder.badge(&format!("quantize {options} --palette palette.pam in.pam out.pam")).bytes();
             let written = (folder.image("out.pam").pixels, folder.read("i"));
             assert!(written == console.quantized(kind, &palette, &image), "{options}");
         }
+    }
+}
+
+#[test]
+fn entries_of_grey_modes() {
+    // The lumas are 182, 54 and 0: the last entry is transparent in the file.
+    let palette = rgba(3, &[[0, 255, 0, 255], [255, 0, 0, 128], [255, 255, 255, 127]]);
+    let input = rgba(4, &[[140, 140, 140, 255], [60, 60, 60, 0], BLACK, [0, 255, 0, 127]]);
+    let folder = Folder::with(&[("three.pam", palette), ("in.pam", input)]);
+    for (mode, [light, dark], indices) in
+        [("ngp", [182, 36], [0, 1, 2, 0]), ("ws", [182, 36], [0, 1, 2, 0]), ("gb", [170, 0], [0, 1, 1, 0])]
+    {
+        let words = format!("quantize --mode {mode} --kind off --palette three.pam --indices i in.pam out.pam");
+        assert_eq!(folder.badge(&words).said(), format!("out.pam: 4x1, {mode}, off, 3 entries\n"));
+        assert_eq!(folder.read("i"), indices, "{mode}");
+        let colors = [[light, light, light, 255], [dark, dark, dark, 255], BLACK];
+        assert_eq!(folder.read("out.pam"), rgba(4, &indices.map(|index| colors[usize::from(index)])), "{mode}");
+    }
+}
+
+#[test]
+fn entries_and_pixels_without_alpha() {
+    let (clear, input) = ([255, 255, 255, 0], [[255; 4], [0, 0, 0, 127], [255, 255, 255, 0]]);
+    let folder = Folder::with(&[("one.pam", rgba(1, &[clear])), ("in.pam", rgba(3, &input))]);
+    for mode in modes() {
+        folder.badge(&format!("quantize --mode {} --palette one.pam --indices i in.pam out.pam", mode.name)).bytes();
+        // By alpha the entry is transparent, and so is what is drawn in it. Else it is black.
+        let drawn = if WITHOUT_ALPHA.contains(&mode.name) { BLACK } else { [0; 4] };
+        assert_eq!((folder.read("out.pam"), folder.read("i")), (rgba(3, &[drawn; 3]), vec![0; 3]), "{}", mode.name);
     }
 }
 

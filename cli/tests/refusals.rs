@@ -3,6 +3,7 @@
 
 mod common;
 
+use common::expected::modes;
 use common::{Folder, OLD, header, painted, rgb, table};
 
 /// A folder with pictures that are refused for one reason or another, and an
@@ -45,8 +46,12 @@ fn kinds_sizes_and_entries() {
         gallery --origin 0,4294967295 in.pam out.pam => 2: origin 0,4294967295 and the picture's 2x1 add up to more than 4294967295
         quantize --palette 257.pam in.pam out.pam => 4: a palette has 1 to 256 entries, and 257.pam has 257 (257x1 pixels)
         gallery --palette 4096.pam in.pam out.pam => 4: a palette has 1 to 256 entries, and 4096.pam has 4096 (64x64 pixels)";
-    table(cases).for_each(|(words, line)| refused(&folder(), words, line));
-    folder().badge("draw --origin 4294967293,4294967294 in.pam new.pam").bytes();
+    let folder = folder();
+    for (words, line) in table(cases) {
+        refused(&folder, words, line);
+        modes().for_each(|mode| refused(&folder, &format!("{words} --mode {}", mode.name), line));
+    }
+    folder.badge("draw --origin 4294967293,4294967294 in.pam new.pam").bytes();
 }
 
 #[test]
@@ -72,7 +77,7 @@ fn tiles_and_limits() {
 fn the_first_tile_that_is_over() {
     // Of three tiles across and three down those with numbers 4 and 8 have three colours.
     let color = |x: usize, y: usize| match ((x / 8, y / 4), x % 8) {
-        ((1, 1) | (2, 2), 1..=2) => [100 * (x % 8) as u8, 0, 0, 255],
+        ((1, 1) | (2, 2), level @ 1..=2) => [[100 * level as u8; 3].as_slice(), &[255]].concat().try_into().unwrap(),
         _ => [0, 0, 0, 255],
     };
     let folder = Folder::with(&[("in.pam", painted(20, 12, color)), ("out.pam", OLD.to_vec())]);
@@ -80,10 +85,16 @@ fn the_first_tile_that_is_over() {
         8x4 => 8: tile 4 (column 1, row 1, tiles of 8x4) has more than 2 colours
         20x3 => 8: tile 1 (column 0, row 1, tiles of 20x3) has more than 2 colours
         3x12 => 8: tile 3 (column 3, row 0, tiles of 3x12) has more than 2 colours";
-    for (tile, line) in table(cases) {
-        refused(&folder, &format!("draw --kind off --tile {tile} --limit 2 in.pam out.pam"), line);
+    for mode in modes() {
+        for (tile, line) in table(cases) {
+            refused(
+                &folder,
+                &format!("draw --mode {} --kind off --tile {tile} --limit 2 in.pam out.pam", mode.name),
+                line,
+            );
+        }
+        folder.badge(&format!("draw --mode {} --kind off --tile 8x4 --limit 3 in.pam -", mode.name)).bytes();
     }
-    folder.badge("draw --kind off --tile 8x4 --limit 3 in.pam out.pam").bytes();
 }
 
 #[test]

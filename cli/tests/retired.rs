@@ -49,6 +49,8 @@ fn it_is_refused_before_all_that_an_order_can_have_wrong_besides() {
         "draw --kind 5 --tile 0x8 --limit 257 in.pam out.pam",
         "draw --kind 5 --limit 0 in.pam out.pam",
         "quantize --kind 5 --palette long.pam in.pam out.pam",
+        "draw --mode gb --kind 5 --tile 0x8 in.pam out.pam",
+        "quantize --mode sms --kind 5 --palette long.pam in.pam out.pam",
     ] {
         refused(&folder, words, "5 (stipple-v)");
     }

@@ -1,6 +1,7 @@
 /*
  * An example of the C interface: a small grey gradient, dithered to four greys by a few kinds and printed as characters, and
- * then dithered to a mode, once within the limit of its tiles and once over it. C11; link with libexports.a.
+ * then dithered to a mode, once within the limit of its tiles and once over it. Last it is dithered to the greys of a Game Boy,
+ * which knows no transparent pixels. C11; link with libexports.a.
  */
 #include <stdint.h>
 #include <stdio.h>
@@ -10,10 +11,10 @@
 
 #define COUNT(array) (sizeof(array) / sizeof((array)[0]))
 
-enum { WIDTH = 48, HEIGHT = 16, PIXELS = WIDTH * HEIGHT, PLACES = 32, SHIFT = 3 };
+enum { WIDTH = 48, HEIGHT = 16, PIXELS = WIDTH * HEIGHT, PLACES = 32, SHIFT = 3, GAME_BOY_SHIFT = 6 };
 
 static uint8_t reduction[256], scale[256];
-static uint8_t pixels[4 * PIXELS];
+static uint8_t pixels[4 * PIXELS], opaque[4 * PIXELS];
 
 /* The tables of five bits a channel: reducing drops three bits, scaling repeats the upper ones. */
 static void make_tables(void)
@@ -24,7 +25,16 @@ static void make_tables(void)
     }
 }
 
-/* From black at the left to white at the right, with a transparent corner. */
+/* The tables of a Game Boy, which has two bits a channel. */
+static void make_game_boy_tables(void)
+{
+    for (unsigned v = 0; v < 256; v++) {
+        reduction[v] = (uint8_t)(v >> 6);
+        scale[v] = (uint8_t)(v << 6 | v << 4 | v << 2 | v);
+    }
+}
+
+/* From black at the left to white at the right, with a transparent corner; and the opaque pixels of it, in which that is 0. */
 static void make_picture(void)
 {
     for (unsigned i = 0; i < PIXELS; i++) {
@@ -32,6 +42,8 @@ static void make_picture(void)
         uint8_t grey = (uint8_t)(x * 255 / (WIDTH - 1));
         uint8_t alpha = x + y < 6 ? 0 : 255;
         memcpy(pixels + 4 * i, (uint8_t[]){grey, grey, grey, alpha}, 4);
+        if (alpha >= 128)
+            memcpy(opaque + 4 * i, pixels + 4 * i, 4);
     }
 }
 
@@ -56,9 +68,9 @@ static int show_kind(const char *name, uint32_t kind)
     static int16_t cells[3 * PIXELS];
     size_t cells_len = kind == BADGE_ATKINSON || kind == BADGE_FLOYD_STEINBERG ? COUNT(cells) : 0;
 
-    uint32_t number = badge_quantize_pixels(SHIFT, kind, WIDTH, HEIGHT, reduction, COUNT(reduction), scale, COUNT(scale),
-                                            palette, COUNT(palette), pixels, COUNT(pixels), indices, COUNT(indices),
-                                            out, COUNT(out), cells_len ? cells : NULL, cells_len);
+    uint32_t number = badge_quantize_pixels(SHIFT, BADGE_BY_ALPHA, kind, WIDTH, HEIGHT, reduction, COUNT(reduction),
+                                            scale, COUNT(scale), palette, COUNT(palette), pixels, COUNT(pixels), NULL, 0,
+                                            indices, COUNT(indices), out, COUNT(out), cells_len ? cells : NULL, cells_len);
     if (number != BADGE_ACCEPTED) {
         printf("%s: refused with %u\n", name, (unsigned)number);
         return 1;
@@ -75,9 +87,10 @@ static uint32_t show_mode(uint32_t limit)
     static float oklab[3 * PLACES];
     uint32_t count = 0, tile = 0;
 
-    uint32_t number = badge_dither_to_mode(SHIFT, BADGE_OFF, WIDTH, HEIGHT, 0, 0, 8, 8, limit, 0, 0, 0, 0, 0, reduction,
-                                           COUNT(reduction), scale, COUNT(scale), pixels, COUNT(pixels), places,
-                                           COUNT(places), oklab, COUNT(oklab), out, COUNT(out), NULL, 0, &count, &tile);
+    uint32_t number = badge_dither_to_mode(SHIFT, BADGE_BY_ALPHA, BADGE_OFF, WIDTH, HEIGHT, 0, 0, 8, 8, limit, 0, 0, 0, 0, 0,
+                                           reduction, COUNT(reduction), scale, COUNT(scale), pixels, COUNT(pixels), NULL, 0,
+                                           places, COUNT(places), oklab, COUNT(oklab), out, COUNT(out), NULL, 0,
+                                           &count, &tile);
     if (number == BADGE_ACCEPTED)
         printf("limit %u: %u candidates, every tile within its limit\n", (unsigned)limit, (unsigned)count);
     else if (number == BADGE_REFUSED_TILE_OVER)
@@ -85,6 +98,29 @@ static uint32_t show_mode(uint32_t limit)
     else
         printf("limit %u: refused with %u\n", (unsigned)limit, (unsigned)number);
     return number;
+}
+
+/* Dithers the picture to the greys of a Game Boy that it has, and prints it: the corner is drawn like the rest. */
+static int show_game_boy(void)
+{
+    static uint8_t indices[PIXELS], places[4 * PLACES], out[4 * PIXELS];
+    static float oklab[3 * PLACES];
+    uint32_t count = 0, tile = 0;
+
+    make_game_boy_tables();
+    uint32_t number = badge_dither_to_mode(GAME_BOY_SHIFT, BADGE_GREY, BADGE_BAYER_4X4, WIDTH, HEIGHT, 0, 0, 8, 8, 4,
+                                           0, 0, 0, 0, 0, reduction, COUNT(reduction), scale, COUNT(scale),
+                                           pixels, COUNT(pixels), opaque, COUNT(opaque), places, COUNT(places),
+                                           oklab, COUNT(oklab), out, COUNT(out), NULL, 0, &count, &tile);
+    if (number != BADGE_ACCEPTED) {
+        printf("Game Boy: refused with %u\n", (unsigned)number);
+        return 1;
+    }
+    printf("Game Boy, Bayer 4x4: %u greys\n", (unsigned)count);
+    for (unsigned i = 0; i < PIXELS; i++)
+        indices[i] = reduction[out[4 * i]];
+    print_picture(indices, out);
+    return 0;
 }
 
 int main(void)
@@ -101,5 +137,6 @@ int main(void)
         failed |= show_kind(kinds[k].name, kinds[k].kind);
     failed |= show_mode(8) != BADGE_ACCEPTED;
     failed |= show_mode(4) != BADGE_REFUSED_TILE_OVER;
+    failed |= show_game_boy();
     return failed;
 }

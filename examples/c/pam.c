@@ -92,9 +92,9 @@ static uint32_t draw(uint32_t width, uint32_t height, const uint8_t *photo, uint
     size_t pixels = (size_t)width * height;
     uint8_t *indices = memory(NULL, pixels);
     int16_t *cells = memory(NULL, 3 * pixels * sizeof *cells);
-    uint32_t number = badge_quantize_pixels(3, BADGE_FLOYD_STEINBERG, width, height, reduction, 256, scale, 256,
-                                            palette, sizeof palette, photo, 4 * pixels, indices, pixels, drawn, 4 * pixels,
-                                            cells, 3 * pixels);
+    uint32_t number = badge_quantize_pixels(3, BADGE_BY_ALPHA, BADGE_FLOYD_STEINBERG, width, height, reduction, 256, scale, 256,
+                                            palette, sizeof palette, photo, 4 * pixels, NULL, 0, indices, pixels,
+                                            drawn, 4 * pixels, cells, 3 * pixels);
     free(indices);
     free(cells);
     return number;

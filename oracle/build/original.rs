@@ -23,11 +23,12 @@ const DITHER: Document =
 const MODE: &str = include_str!("../src/standins/mode.rs");
 const IMAGE: &str = include_str!("../src/standins/image.rs");
 
-/// The three files.
+/// The three files, and the picture type that stands in.
 pub struct Texts {
     pub color: String,
     pub mode_color: String,
     pub dither: String,
+    pub image: String,
 }
 
 /// Ends the build with some lines.
@@ -56,19 +57,19 @@ pub fn texts() -> Texts {
     println!("cargo::rerun-if-env-changed=DOCS_SRC");
     let folder = PathBuf::from(env::var("DOCS_SRC").unwrap_or_else(|_| "../../shared".into()));
     match [COLOR, MODE_COLOR, DITHER].map(|document| text(&folder, document)) {
-        [Ok(color), Ok(mode_color), Ok(dither)] => Texts { color, mode_color, dither },
+        [Ok(color), Ok(mode_color), Ok(dither)] => Texts { color, mode_color, dither, image: IMAGE.into() },
         texts => fail(&texts.into_iter().filter_map(Result::err).collect::<Vec<_>>()),
     }
 }
 
 /// Writes a copy: the modules under the names and in the places that the
 /// original expects.
-pub fn write(name: &str, Texts { color, mode_color, dither }: &Texts) {
+pub fn write(name: &str, Texts { color, mode_color, dither, image }: &Texts) {
     let quiet = "#[allow(dead_code, clippy::all)]\n";
     let modules = format!(
         "{quiet}pub mod color {{\n{color}\n}}\n\
          {quiet}pub mod mode {{\n{MODE}\npub mod color {{\n{mode_color}\n}}\n}}\n\
-         {quiet}pub mod image {{\n{IMAGE}\n}}\n\
+         {quiet}pub mod image {{\n{image}\n}}\n\
          {quiet}pub mod dither {{\n{dither}\n}}\n"
     );
     fs::write(Path::new(&env::var("OUT_DIR").unwrap()).join(name), modules).unwrap();

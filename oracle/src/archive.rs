@@ -1,5 +1,7 @@
 //! The port as a linked archive, through its C interface. Calls that the
-//! archive lacks are left out when this is built; `has` says which are there.
+//! archive lacks are left out when this is built; `has` says which are there. An
+//! archive of before document 02's fifth request has calls on pictures that take
+//! other arguments under the same names: they count as lacking.
 
 use std::cell::Cell;
 
@@ -54,25 +56,25 @@ mod c {
         ) -> u32;
         #[cfg(has_badge_candidate_colors_in)]
         pub fn badge_candidate_colors_in(
-            shift: u32, width: u32, height: u32,
-            reduction: Bytes, n1: usize, scale: Bytes, n2: usize, pixels: Bytes, n3: usize,
-            places: *mut u8, n4: usize, oklab: *mut f32, n5: usize, count: *mut u32,
+            shift: u32, reducing: u32, width: u32, height: u32,
+            reduction: Bytes, n1: usize, scale: Bytes, n2: usize, pixels: Bytes, n3: usize, opaque: Bytes, n4: usize,
+            places: *mut u8, n5: usize, oklab: *mut f32, n6: usize, count: *mut u32,
         ) -> u32;
         #[cfg(has_badge_quantize_pixels)]
         pub fn badge_quantize_pixels(
-            shift: u32, kind: u32, width: u32, height: u32,
+            shift: u32, reducing: u32, kind: u32, width: u32, height: u32,
             reduction: Bytes, n1: usize, scale: Bytes, n2: usize,
-            palette: Bytes, n3: usize, pixels: Bytes, n4: usize,
-            indices: *mut u8, n5: usize, out: *mut u8, n6: usize, cells: *mut i16, n7: usize,
+            palette: Bytes, n3: usize, pixels: Bytes, n4: usize, opaque: Bytes, n5: usize,
+            indices: *mut u8, n6: usize, out: *mut u8, n7: usize, cells: *mut i16, n8: usize,
         ) -> u32;
         #[cfg(has_badge_dither_to_mode)]
         pub fn badge_dither_to_mode(
-            shift: u32, kind: u32, width: u32, height: u32,
+            shift: u32, reducing: u32, kind: u32, width: u32, height: u32,
             origin_x: u32, origin_y: u32, tile_width: u32, tile_height: u32, limit: u32,
             has_zero: u32, zero_r: u8, zero_g: u8, zero_b: u8, zero_a: u8,
-            reduction: Bytes, n1: usize, scale: Bytes, n2: usize, pixels: Bytes, n3: usize,
-            places: *mut u8, n4: usize, oklab: *mut f32, n5: usize,
-            out: *mut u8, n6: usize, cells: *mut i16, n7: usize,
+            reduction: Bytes, n1: usize, scale: Bytes, n2: usize, pixels: Bytes, n3: usize, opaque: Bytes, n4: usize,
+            places: *mut u8, n5: usize, oklab: *mut f32, n6: usize,
+            out: *mut u8, n7: usize, cells: *mut i16, n8: usize,
             count: *mut u32, tile: *mut u32,
         ) -> u32;
     }
@@ -99,6 +101,12 @@ impl Archive {
     fn ptr_mut<T>(&self, slice: &mut [T]) -> *mut T {
         if slice.is_empty() && self.null.get() { std::ptr::null_mut() } else { slice.as_mut_ptr() }
     }
+
+    /// Whether the calls on pictures name their reduction. The same request gave shift 6
+    /// a width.
+    fn names_reductions(&self) -> bool {
+        cfg!(has_badge_bracket_width) && self.bracket_width(6, 16, &mut 0) == 0
+    }
 }
 
 #[rustfmt::skip]
@@ -115,9 +123,9 @@ impl Port for Archive {
             Call::NearestTwo => cfg!(has_badge_nearest_two),
             Call::OrderedBracket => cfg!(has_badge_ordered_bracket),
             Call::Pick => cfg!(has_badge_pick),
-            Call::CandidateColorsIn => cfg!(has_badge_candidate_colors_in),
-            Call::QuantizePixels => cfg!(has_badge_quantize_pixels),
-            Call::DitherToMode => cfg!(has_badge_dither_to_mode),
+            Call::CandidateColorsIn => cfg!(has_badge_candidate_colors_in) && self.names_reductions(),
+            Call::QuantizePixels => cfg!(has_badge_quantize_pixels) && self.names_reductions(),
+            Call::DitherToMode => cfg!(has_badge_dither_to_mode) && self.names_reductions(),
         }
     }
 
@@ -126,7 +134,8 @@ impl Port for Archive {
     }
 
     // SAFETY, for every call below: pointers and lengths are those of live
-    // slices and references that do not overlap; a null pointer has length 0.
+    // slices and references that do not overlap, save two that are only read; a
+    // null pointer has length 0.
 
     #[inline]
     fn to_oklab(&self, [r, g, b]: [u8; 3], [lightness, out_a, out_b]: [&mut f32; 3]) {
@@ -225,9 +234,9 @@ impl Port for Archive {
         #[cfg(has_badge_candidate_colors_in)]
         return unsafe {
             c::badge_candidate_colors_in(
-                case.shift, case.width, case.height,
+                case.shift, case.reducing, case.width, case.height,
                 self.ptr(read.reduction), read.reduction.len(), self.ptr(read.scale), read.scale.len(),
-                self.ptr(read.pixels), read.pixels.len(),
+                self.ptr(read.pixels), read.pixels.len(), self.ptr(read.opaque), read.opaque.len(),
                 self.ptr_mut(places), places.len(), self.ptr_mut(oklab), oklab.len(), count,
             )
         };
@@ -246,9 +255,10 @@ impl Port for Archive {
         #[cfg(has_badge_quantize_pixels)]
         return unsafe {
             c::badge_quantize_pixels(
-                case.shift, case.kind, case.width, case.height,
+                case.shift, case.reducing, case.kind, case.width, case.height,
                 self.ptr(read.reduction), read.reduction.len(), self.ptr(read.scale), read.scale.len(),
                 self.ptr(read.palette), read.palette.len(), self.ptr(read.pixels), read.pixels.len(),
+                self.ptr(read.opaque), read.opaque.len(),
                 self.ptr_mut(indices), indices.len(), self.ptr_mut(out), out.len(),
                 self.ptr_mut(cells), cells.len(),
             )
@@ -262,11 +272,11 @@ impl Port for Archive {
         return unsafe {
             let [zero_r, zero_g, zero_b, zero_a] = case.zero;
             c::badge_dither_to_mode(
-                case.shift, case.kind, case.width, case.height,
+                case.shift, case.reducing, case.kind, case.width, case.height,
                 case.origin[0], case.origin[1], case.tile[0], case.tile[1], case.limit,
                 case.has_zero, zero_r, zero_g, zero_b, zero_a,
                 self.ptr(read.reduction), read.reduction.len(), self.ptr(read.scale), read.scale.len(),
-                self.ptr(read.pixels), read.pixels.len(),
+                self.ptr(read.pixels), read.pixels.len(), self.ptr(read.opaque), read.opaque.len(),
                 self.ptr_mut(rooms.places), rooms.places.len(), self.ptr_mut(rooms.oklab), rooms.oklab.len(),
                 self.ptr_mut(rooms.out), rooms.out.len(), self.ptr_mut(rooms.cells), rooms.cells.len(),
                 count, tile,

@@ -2,6 +2,7 @@
 //! answer of a call as a list of named values.
 
 use crate::hooks::Tables;
+use crate::model::Lent;
 
 /// The calls of the C interface, in its order.
 #[derive(Debug, Clone, Copy, PartialEq, Eq)]
@@ -98,14 +99,24 @@ impl From<&Tables> for LentTables {
     }
 }
 
+impl LentTables {
+    /// The tables of a call that is not refused for their lengths.
+    pub fn accepted(&self) -> Tables {
+        let [reduction, scale] = [&self.reduction, &self.scale].map(|t| t[..].try_into().expect("256 bytes"));
+        Tables { reduction, scale }
+    }
+}
+
 /// Buffers that a call may write are given as they are before it.
 #[derive(Debug, Clone, Default)]
 pub struct Candidates {
     pub shift: u32,
+    pub reducing: u32,
     pub width: u32,
     pub height: u32,
     pub tables: LentTables,
     pub pixels: Vec<u8>,
+    pub opaque: Vec<u8>,
     pub places: Vec<u8>,
     pub oklab: Vec<f32>,
 }
@@ -113,12 +124,14 @@ pub struct Candidates {
 #[derive(Debug, Clone, Default)]
 pub struct Quantize {
     pub shift: u32,
+    pub reducing: u32,
     pub kind: u32,
     pub width: u32,
     pub height: u32,
     pub tables: LentTables,
     pub palette: Vec<u8>,
     pub pixels: Vec<u8>,
+    pub opaque: Vec<u8>,
     pub indices: Vec<u8>,
     pub out: Vec<u8>,
     pub cells: Vec<i16>,
@@ -127,6 +140,7 @@ pub struct Quantize {
 #[derive(Debug, Clone, Default)]
 pub struct ToMode {
     pub shift: u32,
+    pub reducing: u32,
     pub kind: u32,
     pub width: u32,
     pub height: u32,
@@ -137,11 +151,28 @@ pub struct ToMode {
     pub zero: [u8; 4],
     pub tables: LentTables,
     pub pixels: Vec<u8>,
+    pub opaque: Vec<u8>,
     pub places: Vec<u8>,
     pub oklab: Vec<f32>,
     pub out: Vec<u8>,
     pub cells: Vec<i16>,
 }
+
+/// The reduction and what is lent for it, with tables that fit.
+macro_rules! lent {
+    ($case:ty) => {
+        impl $case {
+            pub fn lent<'a>(&'a self, tables: &'a Tables) -> Lent<'a> {
+                let (shift, reducing, pixels, opaque) = (self.shift, self.reducing, &self.pixels, &self.opaque);
+                Lent { shift, reducing, tables, pixels, opaque }
+            }
+        }
+    };
+}
+
+lent!(Candidates);
+lent!(Quantize);
+lent!(ToMode);
 
 /// A lookup in a list, with the width of those that have one.
 #[derive(Debug, Clone, Default)]
@@ -217,6 +248,16 @@ impl Case {
             _ => {}
         }
         self
+    }
+
+    /// The shift and the reduction of the calls on pictures.
+    pub fn pairing(&self) -> Option<[u32; 2]> {
+        match self {
+            Case::CandidateColorsIn(c) => Some([c.shift, c.reducing]),
+            Case::QuantizePixels(c) => Some([c.shift, c.reducing]),
+            Case::DitherToMode(c) => Some([c.shift, c.reducing]),
+            _ => None,
+        }
     }
 
     /// The lent tables of the calls that have them.

@@ -3,6 +3,7 @@
 
 use crate::case::{Answer, Call, Case};
 use crate::generate::{self, Style};
+use crate::lumas;
 use crate::port::{Port, run};
 use crate::reference::expected;
 use crate::text::{describe, differences};
@@ -98,6 +99,18 @@ pub fn all_colors(report: &mut Report, port: &impl Port) {
     }
 }
 
+/// The luma of all 2^24 colours as opaque pixels: what is known of the original's, and
+/// through the port in two calls.
+pub fn all_lumas(report: &mut Report, port: &impl Port) {
+    let lumas = lumas::all();
+    report.found.extend(lumas::wrong(&lumas));
+    for (luma, opaque) in (0..).zip(lumas::pictures(&lumas)) {
+        for case in lumas::cases(luma, &opaque) {
+            report.compare(port, &format!("all colours of luma {luma}"), &case);
+        }
+    }
+}
+
 /// Every kind, the retired ones among them, and kinds above 10, at 16x16 places,
 /// near 0 and near the end.
 pub fn all_thresholds(report: &mut Report, port: &impl Port) {
@@ -115,12 +128,13 @@ pub fn all_thresholds(report: &mut Report, port: &impl Port) {
 pub fn all_widths(report: &mut Report, port: &impl Port) {
     let powers = (17..64).flat_map(|bit| (0..5).map(move |d| (1u64 << bit) + d - 2));
     let maxes: Vec<u64> = (0..=70_000).chain(powers).chain((0..64).map(|d| u64::MAX - d)).collect();
-    for shift in 3..=5 {
+    for shift in 3..=6 {
         for &max in &maxes {
             report.compare(port, "all widths", &Case::BracketWidth { shift, max });
         }
     }
-    for shift in (0..40).chain([259, 65_539, 1 << 31 | 3, u32::MAX]).filter(|s| !(3..=5).contains(s)) {
+    let ends = [259, 262, 65_539, 65_542, 1 << 31 | 3, 1 << 31 | 6, u32::MAX - 1, u32::MAX];
+    for shift in (0..40).chain(ends).filter(|s| !(3..=6).contains(s)) {
         for max in [0, 1, 16, 256, u64::MAX] {
             report.compare(port, "all widths", &Case::BracketWidth { shift, max });
         }

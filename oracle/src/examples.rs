@@ -1,6 +1,8 @@
 //! The worked examples of document 01 that are whole calls, and a few pictures
 //! that are easily got wrong, as cases.
 
+pub mod greys;
+
 use crate::case::{Case, LentTables, Quantize, ToMode};
 use crate::model;
 use crate::original::own_tables;
@@ -17,12 +19,14 @@ pub fn quantize(kind: u32, palette: &[[u8; 4]], pixels: &[[u8; 4]]) -> Case {
     let cells = if model::is_diffusion(kind) { 3 * pixels.len() } else { 0 };
     Case::QuantizePixels(Quantize {
         shift: 3,
+        reducing: model::BY_ALPHA,
         kind,
         width: pixels.len() as u32,
         height: 1,
         tables: tables(),
         palette: palette.concat(),
         pixels: pixels.concat(),
+        opaque: vec![],
         indices: vec![0xee; pixels.len()],
         out: vec![0xed; 4 * pixels.len()],
         cells: vec![0x5eed; cells],
@@ -35,6 +39,7 @@ pub fn to_mode(kind: u32, tile_width: u32, limit: u32, pixels: &[[u8; 4]]) -> Ca
     let cells = if model::is_diffusion(kind) { 3 * pixels.len() } else { 0 };
     Case::DitherToMode(ToMode {
         shift: 3,
+        reducing: model::BY_ALPHA,
         kind,
         width: pixels.len() as u32,
         height: 1,
@@ -45,6 +50,7 @@ pub fn to_mode(kind: u32, tile_width: u32, limit: u32, pixels: &[[u8; 4]]) -> Ca
         zero: [0; 4],
         tables: tables(),
         pixels: pixels.concat(),
+        opaque: vec![],
         places: vec![0xee; 16],
         oklab: vec![7.5; 12],
         out: vec![0xed; 4 * pixels.len()],

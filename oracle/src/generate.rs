@@ -12,10 +12,9 @@ mod singles;
 mod twins;
 
 pub use corners::corners;
-pub use maker::Style;
+pub use maker::{Fixed, Style};
 
 use crate::case::{Call, Case};
-use crate::hooks::Tables;
 use crate::rng::Rng;
 use maker::Maker;
 
@@ -24,8 +23,8 @@ pub fn case(call: Call, seed: u64, number: u64, style: Style) -> Case {
     case_with(call, seed, number, style, None)
 }
 
-/// Case `number` of a call, with these tables and this shift where it has any.
-pub fn case_with(call: Call, seed: u64, number: u64, style: Style, fixed: Option<(u32, &Tables)>) -> Case {
+/// Case `number` of a call, reduced in this way where it is on a picture.
+pub fn case_with(call: Call, seed: u64, number: u64, style: Style, fixed: Option<Fixed>) -> Case {
     let mixed = Rng::new(seed ^ (call as u64) << 56).word() ^ number.wrapping_mul(0xd6e8_feb8_6659_fd93);
     let mut maker = Maker { rng: Rng::new(mixed), style, fixed };
     match call {

@@ -5,10 +5,10 @@
 use std::collections::BTreeMap;
 
 use crate::case::{Call, Case, ToMode};
-use crate::generate::{self, Style};
-use crate::mode::{Mode, color::ModeColor};
-use crate::model::{self, DRAWN, RETIRED, is_retired};
-use crate::original::{self, How, Rgba, kind_names, modes_of, own_tables};
+use crate::generate::{self, Fixed, Style};
+use crate::mode::Mode;
+use crate::model::{self, BY_ALPHA, DRAWN, PAIRINGS, RETIRED, is_retired};
+use crate::original::{self, How, Rgba, kind_names, modes_of, own_opaque, own_tables};
 use crate::reference::{expected, settings_of};
 use crate::rng::Rng;
 use crate::text::hex;
@@ -20,7 +20,7 @@ pub const SAID_OF_RETIRED: &str = "refused with 15:";
 
 /// How many jobs have each with each: passes, modes, the nine kinds that are drawn
 /// and one turn of a retired one, and roundings.
-pub const EACH_WITH_EACH: u64 = 2 * 12 * 10 * 2;
+pub const EACH_WITH_EACH: u64 = 2 * 16 * 10 * 2;
 
 /// Files by name.
 pub type Files = BTreeMap<String, Vec<u8>>;
@@ -41,9 +41,10 @@ fn pam([width, height]: [u32; 2], pixels: &[u8], alpha: bool) -> Vec<u8> {
 
 /// The generator's next case that has pixels and breaks no bound. (7 is about
 /// rooms that are lent, which are the command's own concern.)
-fn sound(seed: u64, number: u64, shift: u32, nearest: bool) -> ToMode {
+fn sound(seed: u64, number: u64, [shift, reducing]: [u32; 2], nearest: bool) -> ToMode {
     let tables = own_tables(shift, nearest);
-    let made = |n| generate::case_with(Call::DitherToMode, seed, n, STYLE, Some((shift, &tables)));
+    let fixed = Some(Fixed { shift, reducing, tables: &tables });
+    let made = |n| generate::case_with(Call::DitherToMode, seed, n, STYLE, fixed);
     let mut sound = (number << 16..).map(made).filter_map(|case| match (expected(&case).number(), case) {
         (0 | 7 | 8, Case::DitherToMode(case)) if !case.pixels.is_empty() => Some(case),
         _ => None,
@@ -65,11 +66,12 @@ struct Maker<'a> {
 /// take turns, and the rest is chance. After ten turns, which have every kind, a mode
 /// is passed over: so each kind meets each mode.
 pub fn job(seed: u64, number: u64, folder: &str) -> Job {
-    let modes: Vec<Mode> = (3..=5).flat_map(modes_of).copied().collect();
+    let of_pairing = |pairing: [u32; 2]| modes_of(pairing[0], pairing[1]).iter().map(move |&mode| (mode, pairing));
+    let modes: Vec<(Mode, [u32; 2])> = PAIRINGS.into_iter().flat_map(of_pairing).collect();
     let turn = number as usize / 2;
-    let (mode, nearest) = (modes[(turn + turn / 10) % modes.len()], turn / 120 % 2 == 1);
-    let (mut rng, how) = (Rng::new(seed ^ number << 32), How { mode, lent: None, nearest });
-    let mut case = sound(seed, number, mode.channel_shift().into(), nearest);
+    let ((mode, pairing), nearest) = (modes[(turn + turn / 10) % modes.len()], turn / 160 % 2 == 1);
+    let (mut rng, how) = (Rng::new(seed ^ number << 32), How::own(mode, nearest));
+    let mut case = sound(seed, number, pairing, nearest);
     case.kind = DRAWN.get(turn % 10).copied().unwrap_or_else(|| rng.pick(&RETIRED));
     let mut maker = Maker { rng, how, case, folder, words: Vec::new(), before: Files::new() };
     maker.picture();
@@ -98,10 +100,12 @@ impl Maker<'_> {
         self.before.insert(name.into(), pam(size, pixels, alpha));
     }
 
-    /// The files in and out.
+    /// The files in and out. What the pixels are without transparency the command works
+    /// out by itself, so that nothing else is lent.
     fn picture(&mut self) {
         let mut pixels = std::mem::take(&mut self.case.pixels);
         self.put("in.pam", [self.case.width, self.case.height], &mut pixels);
+        self.case.opaque = if self.case.reducing == BY_ALPHA { vec![] } else { own_opaque(&pixels) };
         self.case.pixels = pixels;
         self.occupy("out.pam");
     }
@@ -156,7 +160,7 @@ impl Maker<'_> {
 
     fn model(&self) -> model::Dithered {
         let tables = own_tables(self.case.shift, self.how.nearest);
-        model::dither_to_mode(self.case.shift, &settings_of(&self.case), &tables, &self.case.pixels)
+        model::dither_to_mode(self.case.lent(&tables), &settings_of(&self.case))
     }
 
     /// Every other time a colour zero, mostly one that the picture has.

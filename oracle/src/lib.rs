@@ -15,6 +15,7 @@ pub mod examples;
 pub mod generate;
 pub mod hooks;
 pub mod jobs;
+pub mod lumas;
 pub mod mock;
 pub mod model;
 pub mod original;

@@ -5,6 +5,7 @@
 
 mod choose;
 mod draw;
+mod reduce;
 mod refuse;
 mod slip;
 
@@ -15,6 +16,7 @@ use crate::model;
 use crate::port::{BracketRooms, Lists, Port, Read, Rooms};
 use choose::rgba;
 use draw::Drawing;
+use reduce::Reduced;
 
 impl Port for Mock {
     fn to_oklab(&self, color: [u8; 3], lab: [&mut f32; 3]) {
@@ -41,7 +43,12 @@ impl Port for Mock {
     }
 
     fn bracket_width(&self, shift: u32, max: u64, width: &mut u64) -> u32 {
-        let number = self.say(&[(!(3..6).contains(&shift), 1)]);
+        let last = match self.slip {
+            Some(Slip::WidthOfSixRefused) => 5,
+            Some(Slip::WidthOfSevenAccepted) => 7,
+            _ => 6,
+        };
+        let number = self.say(&[(!(3..=last).contains(&shift), 1)]);
         if self.writes(number) {
             *width = self.bracket_width_of(shift, max);
         }
@@ -120,9 +127,10 @@ impl Port for Mock {
         let fit = read.reduction.len() == 256
             && read.scale.len() == 256
             && read.pixels.len() == 4 * pixels
+            && self.opaque_fits(read.opaque.len(), case.reducing, pixels)
             && self.rooms_fit(places, oklab);
         let number = self.say(&[
-            (case.shift < 3 || case.shift > 5, 1),
+            (self.unpaired(case.shift, case.reducing), 1),
             (self.size_wrong(case.width, case.height), 2),
             (!fit, 3),
         ]);
@@ -132,7 +140,7 @@ impl Port for Mock {
             }
             return number;
         }
-        match self.collect(read, places, oklab) {
+        match self.collect(Reduced { reducing: self.reducing_of(case.reducing), read }, places, oklab) {
             Some(entries) => *count = entries.len() as u32,
             None => return 7,
         }
@@ -161,7 +169,7 @@ impl Port for Mock {
             size: [case.width as usize, case.height as usize],
             origin: [0, 0],
             zero: None,
-            read,
+            from: Reduced { reducing: self.reducing_of(case.reducing), read },
             candidates: entries.map(|i| self.entry(read, rgba(read.palette, i))).collect(),
             width: self.bracket_width_of(case.shift, read.palette.len() as u64 / 4),
         };
@@ -183,7 +191,8 @@ impl Port for Mock {
             }
             return number;
         }
-        let Some(candidates) = self.collect(read, rooms.places, rooms.oklab) else {
+        let from = Reduced { reducing: self.reducing_of(case.reducing), read };
+        let Some(candidates) = self.collect(from, rooms.places, rooms.oklab) else {
             self.leave_cells(7, rooms.cells);
             return 7;
         };
@@ -193,7 +202,7 @@ impl Port for Mock {
             size: [case.width as usize, case.height as usize],
             origin: case.origin.map(|o| if self.has_slip(Slip::OriginOverflowAccepted) { o & 0xffff } else { o }),
             zero: self.flag(case.has_zero).then_some(case.zero),
-            read,
+            from,
             candidates,
             width: self.bracket_width_of(case.shift, u64::from(case.limit)),
         };

@@ -1,7 +1,9 @@
-//! An independent model of the dithering, written from document 01 and sharing
-//! no code with the original: matrices from their rule, `lerp` from whole
-//! numbers, diffusion in whole sixteenths that gathers where the original
-//! scatters, tiles judged after all pixels are chosen.
+//! An independent model of the dithering, written from documents 01 and 02 and
+//! sharing no code with the original: matrices from their rule, `lerp` from whole
+//! numbers, luma by steps that are rounded one by one, diffusion in whole sixteenths
+//! that gathers where the original scatters, tiles judged after all pixels are chosen.
+
+use std::collections::BTreeSet;
 
 use quantette::remembered as to_oklab;
 
@@ -28,6 +30,17 @@ pub fn is_diffusion(kind: u32) -> bool {
     kind == ATKINSON || kind == FLOYD_STEINBERG
 }
 
+/// How a mode reduces, by the number that a call names it with.
+pub const BY_ALPHA: u32 = 0;
+pub const GREY: u32 = 1;
+pub const OPAQUE_COLOR: u32 = 2;
+
+pub const REDUCTIONS: [u32; 3] = [BY_ALPHA, GREY, OPAQUE_COLOR];
+
+/// The shifts that modes have, each with a reduction that it goes with.
+pub const PAIRINGS: [[u32; 2]; 6] =
+    [[3, BY_ALPHA], [4, BY_ALPHA], [5, BY_ALPHA], [5, GREY], [6, GREY], [6, OPAQUE_COLOR]];
+
 // Colours.
 
 /// A candidate.
@@ -47,10 +60,50 @@ pub fn oklab_of([r, g, b]: [u8; 3]) -> Lab {
     to_oklab(r, g, b)
 }
 
-/// None where the pixel is transparent.
-pub fn reduce(tables: &Tables, pixel: Rgba) -> Option<Rgba> {
-    let [r, g, b] = rgb(pixel).map(|v| tables.reduction[usize::from(v)]);
-    (pixel[3] >= 128).then_some([r, g, b, 255])
+/// `luma_u8`, from f32 steps of which each is worked out in f64 and rounded alone: one
+/// step of the wider type is exact enough for that to be the narrower one's own.
+pub fn luma(color: [u8; 3]) -> u8 {
+    let step = |exact: f64| f64::from(exact as f32);
+    let weights = [2126.0, 7152.0, 722.0].map(|share| step(share / 10_000.0));
+    let [r, g, b] = std::array::from_fn(|k| step(step(f64::from(color[k]) / 255.0) * weights[k]));
+    // No sum exceeds 1, so there is nothing to clamp; what is not whole is cut.
+    step(step(step(r + g) + b) * 255.0) as u8
+}
+
+/// What a caller lends for a picture, and the mode that it is reduced to.
+#[derive(Clone, Copy)]
+pub struct Lent<'a> {
+    pub shift: u32,
+    pub reducing: u32,
+    pub tables: &'a Tables,
+    pub pixels: &'a [u8],
+    /// What stands for each pixel where it is not reduced by alpha: the caller says
+    /// that it is `opaque_threshold` of the pixel, and it may be anything.
+    pub opaque: &'a [u8],
+}
+
+impl Lent<'_> {
+    pub fn pixel(&self, i: usize) -> Rgba {
+        self.pixels[4 * i..4 * i + 4].try_into().unwrap()
+    }
+
+    /// Pixel `i` as it is reduced. By alpha it is none where the pixel is transparent;
+    /// else every pixel counts as opaque, and no alpha is looked at.
+    pub fn reduced(&self, i: usize) -> Option<Rgba> {
+        let opaque = || self.opaque[4 * i..4 * i + 3].try_into().unwrap();
+        let channels = match self.reducing {
+            BY_ALPHA => Some(self.pixel(i)).filter(|pixel| pixel[3] >= 128).map(rgb),
+            GREY => Some([luma(opaque()); 3]),
+            OPAQUE_COLOR => Some(opaque()),
+            other => panic!("there is no reduction {other}"),
+        };
+        channels.map(|c| c.map(|v| self.tables.reduction[usize::from(v)])).map(|[r, g, b]| [r, g, b, 255])
+    }
+
+    /// The distinct reduced colours of all pixels.
+    pub fn colors(&self) -> BTreeSet<Rgba> {
+        (0..self.pixels.len() / 4).filter_map(|i| self.reduced(i)).collect()
+    }
 }
 
 pub fn normalize(tables: &Tables, color: Rgba) -> Rgba {
@@ -220,8 +273,7 @@ pub struct Picture<'a> {
     pub height: u32,
     pub origin: [u32; 2],
     pub zero: Option<Rgba>,
-    pub tables: &'a Tables,
-    pub pixels: &'a [u8],
+    pub lent: Lent<'a>,
     pub candidates: &'a [Entry],
     pub bracket_width: u64,
 }
@@ -247,10 +299,6 @@ pub fn rounded(sixteenths: i32) -> u8 {
 }
 
 impl Picture<'_> {
-    fn pixel(&self, i: usize) -> Rgba {
-        self.pixels[4 * i..4 * i + 4].try_into().unwrap()
-    }
-
     fn place(&self, i: usize) -> (i64, i64) {
         let width = self.width as usize;
         ((i % width) as i64, (i / width) as i64)
@@ -290,13 +338,12 @@ impl Picture<'_> {
         let (x, y) = self.place(i);
         let Bracket { dark, light, ratio, .. } = ordered_bracket(self.candidates, color, self.bracket_width);
         let [x, y] = [self.origin[0] + x as u32, self.origin[1] + y as u32];
-        entry(self.tables, pick(dark, light, ratio, self.kind, x, y).unwrap())
+        entry(self.lent.tables, pick(dark, light, ratio, self.kind, x, y).unwrap())
     }
 
     fn draw_pixel(&self, drawn: &[Pixel], i: usize) -> Pixel {
-        let pixel = self.pixel(i);
-        let (source, cell) = (rgb(pixel), self.cell(drawn, i));
-        let chosen = reduce(self.tables, pixel);
+        let (source, cell) = (rgb(self.lent.pixel(i)), self.cell(drawn, i));
+        let chosen = self.lent.reduced(i);
         let kept = Pixel { chosen, source, cell, ..Pixel::default() };
         let Some(reduced) = chosen else {
             return kept;
@@ -335,10 +382,8 @@ fn out_bytes(tables: &Tables, drawn: &[Pixel]) -> Vec<u8> {
 }
 
 /// The distinct reduced colours that are not transparent, ascending.
-pub fn candidate_colors_in(tables: &Tables, pixels: &[u8]) -> Vec<Entry> {
-    let reduced = pixels.chunks_exact(4).filter_map(|p| reduce(tables, p.try_into().unwrap()));
-    let distinct: std::collections::BTreeSet<Rgba> = reduced.collect();
-    distinct.into_iter().map(|c| entry(tables, c)).collect()
+pub fn candidate_colors_in(lent: Lent) -> Vec<Entry> {
+    lent.colors().into_iter().map(|c| entry(lent.tables, c)).collect()
 }
 
 pub struct Quantized {
@@ -348,34 +393,17 @@ pub struct Quantized {
     pub drawn: Vec<Pixel>,
 }
 
-pub fn quantize_pixels(
-    shift: u32,
-    kind: u32,
-    size: [u32; 2],
-    tables: &Tables,
-    palette: &[u8],
-    pixels: &[u8],
-) -> Quantized {
+pub fn quantize_pixels(lent: Lent, kind: u32, [width, height]: [u32; 2], palette: &[u8]) -> Quantized {
     let palette: Vec<Rgba> = palette.chunks_exact(4).map(|c| c.try_into().unwrap()).collect();
-    let candidates: Vec<Entry> = palette.iter().map(|&c| entry(tables, c)).collect();
-    let [width, height] = size;
-    let bracket_width = bracket_width(shift, palette.len() as u64);
-    let picture = Picture {
-        kind,
-        width,
-        height,
-        origin: [0, 0],
-        zero: None,
-        tables,
-        pixels,
-        candidates: &candidates,
-        bracket_width,
-    };
+    let candidates: Vec<Entry> = palette.iter().map(|&c| entry(lent.tables, c)).collect();
+    let bracket_width = bracket_width(lent.shift, palette.len() as u64);
+    let picture =
+        Picture { kind, width, height, origin: [0, 0], zero: None, lent, candidates: &candidates, bracket_width };
     let drawn = picture.draw();
     let index = |p: &Pixel| p.chosen.map_or(0, |c| palette.iter().position(|&e| e == c).unwrap() as u8);
     Quantized {
         indices: drawn.iter().map(index).collect(),
-        out: out_bytes(tables, &drawn),
+        out: out_bytes(lent.tables, &drawn),
         cells: cells_of(kind, &drawn),
         drawn,
     }
@@ -386,7 +414,7 @@ pub fn quantize_pixels(
 pub fn tile_counts(size: [u32; 2], tile: [u32; 2], drawn: &[Pixel]) -> Vec<usize> {
     let across = size[0].div_ceil(tile[0]) as usize;
     let down = size[1].div_ceil(tile[1]) as usize;
-    let mut colors = vec![std::collections::BTreeSet::new(); across * down];
+    let mut colors = vec![BTreeSet::new(); across * down];
     for (i, pixel) in drawn.iter().enumerate() {
         let (x, y) = (i as u32 % size[0], i as u32 / size[0]);
         if let Some(chosen) = pixel.chosen {
@@ -406,17 +434,17 @@ pub struct Dithered {
     pub most_colors: usize,
 }
 
-pub fn dither_to_mode(shift: u32, settings: &Settings, tables: &Tables, pixels: &[u8]) -> Dithered {
-    let candidates = candidate_colors_in(tables, pixels);
+pub fn dither_to_mode(lent: Lent, settings: &Settings) -> Dithered {
+    let candidates = candidate_colors_in(lent);
     let Settings { kind, width, height, origin, tile, limit, zero } = *settings;
-    let bracket_width = bracket_width(shift, u64::from(limit));
-    let picture = Picture { kind, width, height, origin, zero, tables, pixels, candidates: &candidates, bracket_width };
+    let bracket_width = bracket_width(lent.shift, u64::from(limit));
+    let picture = Picture { kind, width, height, origin, zero, lent, candidates: &candidates, bracket_width };
     let drawn = picture.draw();
     let counts = tile_counts([width, height], tile, &drawn);
     Dithered {
         tile: counts.iter().position(|&n| n > limit as usize),
         most_colors: counts.iter().copied().max().unwrap_or(0),
-        out: out_bytes(tables, &drawn),
+        out: out_bytes(lent.tables, &drawn),
         cells: cells_of(kind, &drawn),
         drawn,
         candidates,

@@ -3,42 +3,60 @@
 
 use crate::color::{CandidateColor, NormalizedColor, ReducedColor, Rgba8888, oklab_sqdist};
 use crate::dither::{self, Dither, TileBudget, probe};
-use crate::hooks::{Tables, take_cells, with_tables};
+use crate::hooks::{self, Opaque, Tables, take_cells, with_opaque, with_tables};
 use crate::image::Image;
 use crate::mode::Mode;
-use crate::mode::color::{ColorRounding, ModeColor, probe as tables};
+use crate::mode::color::{ColorRounding, ModeColor, probe as own};
+use crate::model::{BY_ALPHA, GREY, Lent, OPAQUE_COLOR, REDUCTIONS};
 use quantette::deps::palette::Oklab;
 
 pub type Rgba = [u8; 4];
 pub type Lab = [f32; 3];
 
-/// The ported modes of a shift.
-pub fn modes_of(shift: u32) -> &'static [Mode] {
-    match shift {
-        3 => &[Mode::Snes, Mode::SnesMode7, Mode::Gbc, Mode::Gba, Mode::GbaAffine],
-        4 => &[Mode::Gg, Mode::Ngpc, Mode::Wsc, Mode::WscPacked],
-        5 => &[Mode::Md, Mode::Pce, Mode::PceSprite],
-        _ => panic!("shift {shift} is not ported"),
+/// The modes of a shift that reduce so; none of a pairing that there is not.
+pub fn modes_of(shift: u32, reducing: u32) -> &'static [Mode] {
+    match (shift, reducing) {
+        (3, BY_ALPHA) => &[Mode::Snes, Mode::SnesMode7, Mode::Gbc, Mode::Gba, Mode::GbaAffine],
+        (4, BY_ALPHA) => &[Mode::Gg, Mode::Ngpc, Mode::Wsc, Mode::WscPacked],
+        (5, BY_ALPHA) => &[Mode::Md, Mode::Pce, Mode::PceSprite],
+        (5, GREY) => &[Mode::Ngp, Mode::Ws],
+        (6, GREY) => &[Mode::Gb],
+        (6, OPAQUE_COLOR) => &[Mode::Sms],
+        _ => &[],
     }
 }
 
 /// The original's own tables for a shift and a rounding.
 pub fn own_tables(shift: u32, nearest: bool) -> Tables {
-    Tables { reduction: tables::own_reduction(shift, ColorRounding::from(nearest)), scale: tables::own_scale(shift) }
+    Tables { reduction: own::own_reduction(shift, ColorRounding::from(nearest)), scale: own::own_scale(shift) }
 }
 
-/// How the original reduces and normalises: by the lent tables, or, where none
-/// are lent, by itself.
+/// The original's own `opaque_threshold` of a picture's pixels.
+pub fn own_opaque(pixels: &[u8]) -> Vec<u8> {
+    bytes_of(&colors_of(pixels).into_iter().map(own::own_opaque).collect::<Vec<NormalizedColor>>())
+}
+
+/// How the original reduces and normalises: by the lent tables and opaque pixels, or,
+/// where none are lent, by itself.
 #[derive(Clone, Copy)]
 pub struct How<'a> {
     pub mode: Mode,
     pub lent: Option<&'a Tables>,
     pub nearest: bool,
+    pub opaque: Option<&'a [u8]>,
 }
 
 impl<'a> How<'a> {
-    pub fn lent(shift: u32, tables: &'a Tables) -> How<'a> {
-        How { mode: modes_of(shift)[0], lent: Some(tables), nearest: false }
+    /// All that is lent for a picture.
+    pub fn lent(lent: Lent<'a>) -> How<'a> {
+        let Lent { shift, reducing, tables, opaque, .. } = lent;
+        let opaque = (reducing != BY_ALPHA).then_some(opaque);
+        How { mode: modes_of(shift, reducing)[0], lent: Some(tables), nearest: false, opaque }
+    }
+
+    /// Nothing lent.
+    pub fn own(mode: Mode, nearest: bool) -> How<'static> {
+        How { mode, lent: None, nearest, opaque: None }
     }
 
     fn rounding(self) -> ColorRounding {
@@ -50,6 +68,14 @@ impl<'a> How<'a> {
             Some(tables) => with_tables(tables, run),
             None => run(),
         }
+    }
+
+    /// The same over a picture, whose candidates are collected first or not at all.
+    fn run_over<T>(self, pixels: &[u8], collects: bool, run: impl FnOnce() -> T) -> T {
+        self.run(|| match self.opaque {
+            Some(opaque) => with_opaque(Opaque::new(colors_of(pixels), colors_of(opaque), collects), run),
+            None => run(),
+        })
     }
 }
 
@@ -73,6 +99,10 @@ fn bytes_of(colors: &[NormalizedColor]) -> Vec<u8> {
     colors.iter().flat_map(|c| c.to_bytes()).collect()
 }
 
+fn colors_of(pixels: &[u8]) -> Vec<NormalizedColor> {
+    pixels.chunks_exact(4).map(|p| NormalizedColor(rgba(p))).collect()
+}
+
 /// The kinds' numbers in the original's declaration, as document 01 counts them.
 pub fn kind_numbers() -> [u32; 11] {
     probe::KINDS.map(probe::number)
@@ -85,6 +115,10 @@ pub fn kind_names() -> [String; 11] {
 
 pub fn reduce_color(how: How, color: Rgba) -> Rgba {
     how.run(|| how.mode.reduce_color(NormalizedColor(rgba(&color)), how.rounding())).to_bytes()
+}
+
+pub fn luma(color: [u8; 3]) -> u8 {
+    opaque(color).luma_u8()
 }
 
 pub fn to_oklab(color: [u8; 3]) -> Lab {
@@ -100,8 +134,10 @@ pub fn threshold(kind: u32, x: u32, y: u32) -> f32 {
     probe::threshold(kind_of(kind), x, y)
 }
 
+/// It asks a mode for nothing but its shift.
 pub fn bracket_width(shift: u32, max: u64) -> u64 {
-    dither::bracket_width(modes_of(shift)[0], max as usize) as u64
+    let mode = REDUCTIONS.into_iter().find_map(|reducing| modes_of(shift, reducing).first());
+    dither::bracket_width(*mode.expect("a mode has this shift"), max as usize) as u64
 }
 
 pub fn lerp(c1: [u8; 3], c2: [u8; 3], color: [u8; 3], clamp: bool) -> f32 {
@@ -202,7 +238,7 @@ fn image_of(width: u32, height: u32, origin: [u32; 2], pixels: &[u8]) -> Image {
         height,
         src_x: origin[0],
         src_y: origin[1],
-        data: pixels.chunks_exact(4).map(|p| NormalizedColor(rgba(p))).collect(),
+        data: colors_of(pixels),
         indexed_data: Vec::new(),
         palette: Vec::new(),
         colors: Default::default(),
@@ -212,7 +248,7 @@ fn image_of(width: u32, height: u32, origin: [u32; 2], pixels: &[u8]) -> Image {
 /// The candidates' reduced bytes and their Oklab, one after the other.
 pub fn candidate_colors_in(how: How, width: u32, height: u32, pixels: &[u8]) -> (Vec<u8>, Vec<f32>) {
     let image = image_of(width, height, [0, 0], pixels);
-    let list = how.run(|| dither::candidate_colors_in(&image, how.mode, how.rounding()));
+    let list = how.run_over(pixels, true, || dither::candidate_colors_in(&image, how.mode, how.rounding()));
     let reduced = list.iter().flat_map(|c| c.reduced.to_bytes()).collect();
     let lab = list.iter().flat_map(|c| [c.oklab.l, c.oklab.a, c.oklab.b]).collect();
     (reduced, lab)
@@ -228,9 +264,12 @@ pub struct Quantized {
 
 pub fn quantize_pixels(how: How, kind: u32, width: u32, height: u32, palette: &[u8], pixels: &[u8]) -> Quantized {
     let palette: Vec<ReducedColor> = palette.chunks_exact(4).map(|c| ReducedColor(rgba(c))).collect();
-    let color_at = |i: usize| NormalizedColor(rgba(&pixels[4 * i..4 * i + 4]));
-    let (indices, out) =
-        how.run(|| dither::quantize_pixels(how.mode, &palette, width, height, kind_of(kind), how.rounding(), color_at));
+    let color_at = |i: usize| {
+        hooks::ask(i);
+        NormalizedColor(rgba(&pixels[4 * i..4 * i + 4]))
+    };
+    let draw = || dither::quantize_pixels(how.mode, &palette, width, height, kind_of(kind), how.rounding(), color_at);
+    let (indices, out) = how.run_over(pixels, false, draw);
     Quantized { indices, out: bytes_of(&out), cells: take_cells() }
 }
 
@@ -252,8 +291,8 @@ pub fn dither_to_mode(how: How, settings: &Settings, pixels: &[u8]) -> Option<(V
     let image = image_of(settings.width, settings.height, settings.origin, pixels);
     let budget = TileBudget { width: settings.tile[0], height: settings.tile[1], max_colors: settings.limit as usize };
     let zero = settings.zero.map(|c| ReducedColor(rgba(&c)));
-    let drawn =
-        how.run(|| dither::dither_to_mode(&image, how.mode, kind_of(settings.kind), how.rounding(), zero, budget));
+    let draw = || dither::dither_to_mode(&image, how.mode, kind_of(settings.kind), how.rounding(), zero, budget);
+    let drawn = how.run_over(pixels, true, draw);
     let cells = take_cells();
     drawn.map(|image| (bytes_of(&image.data), cells))
 }

@@ -13,13 +13,14 @@ pub struct Lists<'a> {
 }
 
 /// What a call over a picture only reads: its case, with tables, palette and
-/// pixels in buffers of their own.
+/// pixels in buffers of their own. Only both pixel buffers may be one.
 #[derive(Clone, Copy)]
 pub struct Read<'a> {
     pub reduction: &'a [u8],
     pub scale: &'a [u8],
     pub palette: &'a [u8],
     pub pixels: &'a [u8],
+    pub opaque: &'a [u8],
 }
 
 /// A port. Methods have the order of the C parameters; sizes and settings are
@@ -166,9 +167,9 @@ impl<T: Bits> Room<T> {
     }
 }
 
-/// Cells, before a margin that has room for as many floats: an archive of before
-/// document 02's eleventh request writes these, and is to be noticed like any other
-/// port that writes outside what it was lent.
+/// Cells, before a margin that has room for as many floats: a port that writes these, as
+/// all did before document 02's eleventh request, is to be noticed like any other that
+/// writes outside what it was lent.
 fn room_of_cells(cells: &[i16]) -> Room<i16> {
     Room::before(cells, MARGIN + cells.len())
 }
@@ -209,20 +210,21 @@ impl LentLists {
 
 /// Copies of what a call over a picture reads, between margins.
 struct LentRead {
-    rooms: [Room<u8>; 4],
+    rooms: [Room<u8>; 5],
 }
 
 impl LentRead {
-    fn new(parts: [&[u8]; 4]) -> LentRead {
+    fn new(parts: [&[u8]; 5]) -> LentRead {
         LentRead { rooms: parts.map(Room::new) }
     }
 
+    /// Opaque pixels that are the pixels themselves are lent as the same memory.
     fn read(&self) -> Read<'_> {
-        let [reduction, scale, palette, pixels] = self.rooms.each_ref().map(|r| r.inner());
-        Read { reduction, scale, palette, pixels }
+        let [reduction, scale, palette, pixels, opaque] = self.rooms.each_ref().map(|r| r.inner());
+        Read { reduction, scale, palette, pixels, opaque: if opaque == pixels { pixels } else { opaque } }
     }
 
-    fn check(&self, parts: [&[u8]; 4], call: Call) {
+    fn check(&self, parts: [&[u8]; 5], call: Call) {
         demand(self.rooms.iter().zip(parts).all(|(room, part)| room.kept(part)), "inputs", call);
     }
 }
@@ -302,7 +304,7 @@ fn run_pick(port: &impl Port, case: &PickCase) -> Answer {
 }
 
 fn run_candidate_colors_in(port: &impl Port, case: &Candidates) -> Answer {
-    let parts = [&case.tables.reduction[..], &case.tables.scale, &[], &case.pixels];
+    let parts = [&case.tables.reduction[..], &case.tables.scale, &[], &case.pixels, &case.opaque];
     let lent = LentRead::new(parts);
     let (mut places, mut oklab) = (Room::new(&case.places), Room::new(&case.oklab));
     let mut count = RUBBISH;
@@ -318,7 +320,7 @@ fn run_candidate_colors_in(port: &impl Port, case: &Candidates) -> Answer {
 }
 
 fn run_quantize_pixels(port: &impl Port, case: &Quantize) -> Answer {
-    let parts = [&case.tables.reduction[..], &case.tables.scale, &case.palette, &case.pixels];
+    let parts = [&case.tables.reduction[..], &case.tables.scale, &case.palette, &case.pixels, &case.opaque];
     let lent = LentRead::new(parts);
     let [mut indices, mut out] = [&case.indices, &case.out].map(|b| Room::new(b));
     let mut cells = room_of_cells(&case.cells);
@@ -335,7 +337,7 @@ fn run_quantize_pixels(port: &impl Port, case: &Quantize) -> Answer {
 }
 
 fn run_dither_to_mode(port: &impl Port, case: &ToMode) -> Answer {
-    let parts = [&case.tables.reduction[..], &case.tables.scale, &[], &case.pixels];
+    let parts = [&case.tables.reduction[..], &case.tables.scale, &[], &case.pixels, &case.opaque];
     let lent = LentRead::new(parts);
     let [mut places, mut out] = [&case.places, &case.out].map(|b| Room::new(b));
     let (mut oklab, mut cells) = (Room::new(&case.oklab), room_of_cells(&case.cells));

@@ -7,16 +7,22 @@ pub mod twins;
 use crate::case::{Call, Case, LentTables, List, Lookup};
 use crate::color::{ReducedColor, eq_rgb};
 use crate::examples;
-use crate::generate::{Style, case_with};
+use crate::generate::{Fixed, Style, case_with};
 use crate::hooks::Tables;
-use crate::model::{DRAWN, RETIRED};
+use crate::model::{BY_ALPHA, DRAWN, GREY, OPAQUE_COLOR, RETIRED};
 use crate::original::{Rgba, own_tables, to_oklab};
 use crate::reference::expected;
 use crate::rng::Rng;
 use crate::text::{hex, line, tables_line};
 
-/// How many tables pictures are recorded with.
+/// The list stays below so many bytes: the program that replays it has room for 600,000.
+pub const MOST_BYTES: usize = 590_000;
+
+/// How many tables pictures that reduce by alpha are recorded with.
 const TABLE_SETS: u32 = 4;
+
+/// How many others are: two that reduce to greys, and one to opaque colours.
+const GREY_SETS: u32 = 3;
 
 /// How many cases of an expected number a group takes, of one kind or of any.
 #[derive(Debug, Clone)]
@@ -36,26 +42,32 @@ pub fn behind(case: &Case) -> u32 {
 }
 
 /// The quotas of both retired kinds: this turn's share of those with each of these
-/// numbers behind 15, and in the first two turns one with a bad shift, which is 1.
+/// numbers behind 15, and in the first two turns one with a pairing that there is not,
+/// which is 1.
 fn retired_pictures(numbers: &[u32], turn: u32) -> Vec<Quota> {
     let pairs = RETIRED.into_iter().flat_map(|kind| numbers.iter().map(move |&number| (kind, number)));
     let of_turn = pairs.zip(0..).filter(|(_, place)| place % TABLE_SETS == turn);
     let hidden =
         of_turn.map(|((kind, number), _)| Quota { number: 15, kind: Some(kind), behind: Some(number), count: 1 });
-    let shift = RETIRED.get(turn as usize).map(|&kind| Quota { number: 1, kind: Some(kind), behind: None, count: 1 });
-    hidden.chain(shift).collect()
+    let unpaired =
+        RETIRED.get(turn as usize).map(|&kind| Quota { number: 1, kind: Some(kind), behind: None, count: 1 });
+    hidden.chain(unpaired).collect()
+}
+
+/// So many cases of each of these numbers, of any kind.
+fn plain(counts: &[(u32, usize)]) -> Vec<Quota> {
+    counts.iter().map(|&(number, count)| Quota { number, kind: None, behind: None, count }).collect()
+}
+
+/// A case of a number for each kind that is drawn and wanted.
+fn drawn(number: u32, wanted: impl Fn(u32) -> bool) -> Vec<Quota> {
+    let of_kind = |kind| Quota { number, kind: Some(kind), behind: None, count: 1 };
+    DRAWN.into_iter().filter(|&kind| wanted(kind)).map(of_kind).collect()
 }
 
 /// The quotas of a call; of one on pictures for the tables of this turn.
 fn quotas(call: Call, turn: u32) -> Vec<Quota> {
-    let plain = |counts: &[(u32, usize)]| -> Vec<Quota> {
-        counts.iter().map(|&(number, count)| Quota { number, kind: None, behind: None, count }).collect()
-    };
-    let of_kind = |number, kind, count| Quota { number, kind: Some(kind), behind: None, count };
-    let drawn = |number: u32, wanted: &dyn Fn(u32) -> bool| -> Vec<Quota> {
-        DRAWN.into_iter().filter(|&kind| wanted(kind)).map(|kind| of_kind(number, kind, 1)).collect()
-    };
-    let retired = RETIRED.map(|kind| of_kind(15, kind, 4)).to_vec();
+    let retired = RETIRED.map(|kind| Quota { number: 15, kind: Some(kind), behind: None, count: 4 }).to_vec();
     match call {
         Call::ToOklab => plain(&[(0, 96)]),
         Call::OklabSqdist => plain(&[(0, 60), (6, 30)]),
@@ -66,20 +78,38 @@ fn quotas(call: Call, turn: u32) -> Vec<Quota> {
         Call::NearestTwo => plain(&[(0, 40), (3, 6), (4, 2), (6, 6)]),
         Call::OrderedBracket => plain(&[(0, 40), (3, 6), (4, 2), (6, 6)]),
         Call::Pick => [plain(&[(0, 48), (1, 6), (9, 9)]), retired].concat(),
+        // The tables after those by alpha.
+        _ if turn >= TABLE_SETS => quotas_of_greys(call, turn - TABLE_SETS),
         // These are taken for each of the tables, every kind that is drawn among them;
         // 8 has each of these kinds over all tables, and so has 15 the retired ones.
         Call::CandidateColorsIn => plain(&[(0, 5), (1, 1), (2, 1), (3, 4), (7, 2)]),
         Call::QuantizePixels => {
-            [retired_pictures(&[0, 2, 3, 4], turn), plain(&[(1, 1), (2, 1), (3, 6), (4, 1)]), drawn(0, &|_| true)]
+            [retired_pictures(&[0, 2, 3, 4], turn), plain(&[(1, 1), (2, 1), (3, 6), (4, 1)]), drawn(0, |_| true)]
                 .concat()
         }
         Call::DitherToMode => [
             retired_pictures(&[0, 2, 3, 5, 7, 8], turn),
             plain(&[(1, 1), (2, 2), (3, 5), (5, 2), (7, 2)]),
-            drawn(0, &|_| true),
-            drawn(8, &|kind| kind % TABLE_SETS == turn),
+            drawn(0, |_| true),
+            drawn(8, |kind| kind % TABLE_SETS == turn),
         ]
         .concat(),
+    }
+}
+
+/// The quotas of a call on pictures that reduce to a grey or an opaque colour: every kind
+/// that is drawn, to the mode both to greys and to opaque colours.
+fn quotas_of_greys(call: Call, turn: u32) -> Vec<Quota> {
+    let hidden = Quota { number: 15, kind: Some(RETIRED[turn as usize % 2]), behind: Some(0), count: 1 };
+    match call {
+        Call::CandidateColorsIn => plain(&[(0, 4), (1, 1), (3, 1), (7, 1)]),
+        Call::QuantizePixels => {
+            [vec![hidden], plain(&[(1, 1), (3, 1)]), drawn(0, |kind| kind % GREY_SETS == turn)].concat()
+        }
+        _ => {
+            let of_turn = |kind| turn == 2 || kind % 2 == turn;
+            [vec![hidden], plain(&[(1, 1), (3, 1), (7, 1), (8, 1)]), drawn(0, of_turn)].concat()
+        }
     }
 }
 
@@ -92,12 +122,21 @@ impl Quota {
     }
 }
 
-/// Cases until every quota is full.
-fn sample(call: Call, style: Style, seed: u64, mut wanted: Vec<Quota>, fixed: Option<(u32, &Tables)>) -> Vec<Case> {
+/// Whether a case has tables of a wrong length in place of those that are given.
+fn has_other_tables(case: &Case, fixed: Fixed) -> bool {
+    case.tables() != Some(&fixed.tables.into())
+}
+
+/// Cases until every quota is full. Tables of a wrong length take a line of their own, and
+/// are left to pictures that reduce by alpha.
+fn sample(call: Call, style: Style, seed: u64, mut wanted: Vec<Quota>, fixed: Option<Fixed>) -> Vec<Case> {
     let mut taken = Vec::new();
     for turn in 0.. {
         assert!(turn < 100_000, "no case of {} for {wanted:?}", call.name());
         let case = case_with(call, seed, turn, style, fixed);
+        if fixed.is_some_and(|fixed| fixed.reducing != BY_ALPHA && has_other_tables(&case, fixed)) {
+            continue;
+        }
         let number = expected(&case).number();
         if let Some(quota) = wanted.iter_mut().find(|quota| quota.takes(&case, number)) {
             quota.count -= 1;
@@ -111,12 +150,20 @@ fn sample(call: Call, style: Style, seed: u64, mut wanted: Vec<Quota>, fixed: Op
     taken
 }
 
-/// The tables that pictures are recorded with.
-fn table_sets(seed: u64) -> [(u32, Tables); TABLE_SETS as usize] {
+/// How pictures are recorded: shift, reduction and tables. Those by alpha come first.
+fn table_sets(seed: u64) -> [(u32, u32, Tables); (TABLE_SETS + GREY_SETS) as usize] {
     let mut rng = Rng::new(seed);
     let arbitrary =
         Tables { reduction: std::array::from_fn(|_| rng.byte()), scale: std::array::from_fn(|_| rng.byte()) };
-    [(3, own_tables(3, false)), (4, own_tables(4, true)), (5, own_tables(5, false)), (3, arbitrary)]
+    [
+        (3, BY_ALPHA, own_tables(3, false)),
+        (4, BY_ALPHA, own_tables(4, true)),
+        (5, BY_ALPHA, own_tables(5, false)),
+        (3, BY_ALPHA, arbitrary.clone()),
+        (6, GREY, own_tables(6, false)),
+        (5, GREY, arbitrary),
+        (6, OPAQUE_COLOR, own_tables(6, true)),
+    ]
 }
 
 fn has_tables(call: Call) -> bool {
@@ -129,12 +176,13 @@ pub fn cases_of(call: Call, seed: u64) -> Vec<Case> {
         return sample(call, Style::RECORDER, seed, quotas(call, 0), None);
     }
     let mut all = Vec::new();
-    for ((shift, tables), turn) in table_sets(seed).iter().zip(0..) {
-        let (seed, fixed) = (seed + 1 + u64::from(turn), Some((*shift, tables)));
-        let mut cases = sample(call, Style::RECORDER, seed, quotas(call, turn), fixed);
+    for ((shift, reducing, tables), turn) in table_sets(seed).iter().zip(0..) {
+        let (shift, reducing) = (*shift, *reducing);
+        let (seed, fixed) = (seed + 1 + u64::from(turn), Fixed { shift, reducing, tables });
+        let style = if reducing == BY_ALPHA { Style::RECORDER } else { Style::RECORDER_OF_GREYS };
+        let mut cases = sample(call, style, seed, quotas(call, turn), Some(fixed));
         // Those with spoiled tables last, so that the tables change less often.
-        let own = LentTables::from(tables);
-        cases.sort_by_key(|case| case.tables() != Some(&own));
+        cases.sort_by_key(|case| has_other_tables(case, fixed));
         all.extend(cases);
     }
     all
@@ -239,14 +287,19 @@ pub fn list(calls: &[Call], seed: u64, command: &str) -> String {
                 text += &records_group(call.name(), &record_cases_of(call, seed));
                 text += &records_group(&twins, &twins::of_lookup(call, seed + 1, 2));
             }
+            Call::CandidateColorsIn => {
+                text += &group("candidate_colors_in_greys", &examples::greys::of(call));
+            }
             Call::QuantizePixels => {
                 text += &group("quantize_pixels_searches", &searches::of_quantize());
                 text += &group("quantize_pixels_twins", &twins::of_quantize(seed));
                 text += &group("quantize_pixels_examples", &examples::of_quantize());
+                text += &group("quantize_pixels_greys", &examples::greys::of(call));
             }
             Call::DitherToMode => {
                 text += &group("dither_to_mode_searches", &searches::of_to_mode());
                 text += &group("dither_to_mode_examples", &examples::of_to_mode());
+                text += &group("dither_to_mode_greys", &examples::greys::of(call));
             }
             _ => {}
         }

@@ -2,7 +2,8 @@
 //! 01 and 02 (the first that applies, in the call's order), for accepted calls the
 //! original's own answer, and in all cases what every lent buffer holds afterwards.
 //!
-//! 15 is said by the table alone: the original would draw the retired kinds.
+//! 15 is said by the table alone: the original would draw the retired kinds. And which
+//! pairings of shift and reduction there are, it says by its modes.
 //!
 //! Two things the original does not say. The tile's number after 8 comes from
 //! the model, whose whole pictures the self-check holds to the original; and
@@ -13,8 +14,7 @@
 
 use crate::case::{Answer, Candidates, Case, LentTables, List, Lookup, PickCase, Quantize, ToMode, Value};
 use crate::cells;
-use crate::hooks::Tables;
-use crate::model::{self, is_retired};
+use crate::model::{self, BY_ALPHA, GREY, Lent, OPAQUE_COLOR, is_retired};
 use crate::original::{self, How, Settings};
 
 /// The first number whose test holds; 0 where none does. Tests stand in the
@@ -31,7 +31,17 @@ fn bad_kind(kind: u32) -> bool {
 }
 
 fn bad_shift(shift: u32) -> bool {
-    !(3..=5).contains(&shift)
+    !(3..=6).contains(&shift)
+}
+
+/// Whether there is no such reduction, or none with this shift.
+fn bad_pairing(shift: u32, reducing: u32) -> bool {
+    !match reducing {
+        BY_ALPHA => (3..=5).contains(&shift),
+        GREY => shift == 5 || shift == 6,
+        OPAQUE_COLOR => shift == 6,
+        _ => false,
+    }
 }
 
 fn unordered(kind: u32) -> bool {
@@ -66,6 +76,12 @@ fn bad_rooms(places: &[u8], oklab: &[f32]) -> bool {
 /// Whether `length` is not `each` for every pixel.
 fn bad_length(length: usize, each: u64, width: u32, height: u32) -> bool {
     u128::from(each) * u128::from(pixel_count(width, height)) != length as u128
+}
+
+/// Both buffers of pixels: the opaque ones are lent where the reduction asks for them.
+fn bad_pixels(pixels: &[u8], opaque: &[u8], reducing: u32, width: u32, height: u32) -> bool {
+    let each = if reducing == BY_ALPHA { 0 } else { 4 };
+    bad_length(pixels.len(), 4, width, height) || bad_length(opaque.len(), each, width, height)
 }
 
 fn bad_cells(cells: &[i16], kind: u32, width: u32, height: u32) -> bool {
@@ -164,10 +180,6 @@ fn pick(case: &PickCase) -> Answer {
 
 // Pictures.
 
-fn accepted_tables(tables: &LentTables) -> Tables {
-    Tables { reduction: tables.reduction[..].try_into().unwrap(), scale: tables.scale[..].try_into().unwrap() }
-}
-
 /// The candidate rooms after a call that was not refused before collecting:
 /// filled and counted, or with 7.
 struct Collected {
@@ -176,8 +188,8 @@ struct Collected {
     oklab: Vec<f32>,
 }
 
-fn collect(how: How, size: [u32; 2], pixels: &[u8], places: &[u8], oklab: &[f32]) -> Collected {
-    let (reduced, lab) = original::candidate_colors_in(how, size[0], size[1], pixels);
+fn collect(lent: Lent, size: [u32; 2], places: &[u8], oklab: &[f32]) -> Collected {
+    let (reduced, lab) = original::candidate_colors_in(How::lent(lent), size[0], size[1], lent.pixels);
     if reduced.len() > places.len() {
         return Collected { count: None, places: vec![0; places.len()], oklab: oklab.to_vec() };
     }
@@ -190,12 +202,12 @@ fn collect(how: How, size: [u32; 2], pixels: &[u8], places: &[u8], oklab: &[f32]
 fn candidate_colors_in(case: &Candidates) -> Answer {
     let (width, height) = (case.width, case.height);
     let number = first_said(&[
-        (1, bad_shift(case.shift)),
+        (1, bad_pairing(case.shift, case.reducing)),
         (2, bad_size(width, height)),
         (
             3,
             bad_tables(&case.tables)
-                || bad_length(case.pixels.len(), 4, width, height)
+                || bad_pixels(&case.pixels, &case.opaque, case.reducing, width, height)
                 || bad_rooms(&case.places, &case.oklab),
         ),
     ]);
@@ -210,9 +222,7 @@ fn candidate_colors_in(case: &Candidates) -> Answer {
     if number != 0 {
         return answer(number, Collected { count: None, places: case.places.clone(), oklab: case.oklab.clone() });
     }
-    let tables = accepted_tables(&case.tables);
-    let how = How::lent(case.shift, &tables);
-    let collected = collect(how, [width, height], &case.pixels, &case.places, &case.oklab);
+    let collected = collect(case.lent(&case.tables.accepted()), [width, height], &case.places, &case.oklab);
     answer(if collected.count.is_some() { 0 } else { 7 }, collected)
 }
 
@@ -226,14 +236,14 @@ fn quantize_refusal(case: &Quantize) -> u32 {
     let (width, height) = (case.width, case.height);
     let entries = case.palette.len() / 4;
     first_said(&[
-        (1, bad_kind(case.kind) || bad_shift(case.shift)),
+        (1, bad_kind(case.kind) || bad_pairing(case.shift, case.reducing)),
         (15, is_retired(case.kind)),
         (2, bad_size(width, height)),
         (
             3,
             bad_tables(&case.tables)
                 || !case.palette.len().is_multiple_of(4)
-                || bad_length(case.pixels.len(), 4, width, height)
+                || bad_pixels(&case.pixels, &case.opaque, case.reducing, width, height)
                 || bad_length(case.indices.len(), 1, width, height)
                 || bad_length(case.out.len(), 4, width, height)
                 || bad_cells(&case.cells, case.kind, width, height),
@@ -255,8 +265,8 @@ fn quantize_pixels(case: &Quantize) -> Answer {
     if number != 0 {
         return answer(&case.indices, &case.out, &case.cells);
     }
-    let tables = accepted_tables(&case.tables);
-    let how = How::lent(case.shift, &tables);
+    let tables = case.tables.accepted();
+    let how = How::lent(case.lent(&tables));
     let drawn = original::quantize_pixels(how, case.kind, case.width, case.height, &case.palette, &case.pixels);
     answer(&drawn.indices, &drawn.out, &left_cells(&drawn.cells))
 }
@@ -264,13 +274,13 @@ fn quantize_pixels(case: &Quantize) -> Answer {
 fn to_mode_refusal(case: &ToMode) -> u32 {
     let (width, height) = (case.width, case.height);
     first_said(&[
-        (1, bad_kind(case.kind) || bad_shift(case.shift)),
+        (1, bad_kind(case.kind) || bad_pairing(case.shift, case.reducing)),
         (15, is_retired(case.kind)),
         (2, bad_size(width, height) || bad_origin(case.origin[0], width) || bad_origin(case.origin[1], height)),
         (
             3,
             bad_tables(&case.tables)
-                || bad_length(case.pixels.len(), 4, width, height)
+                || bad_pixels(&case.pixels, &case.opaque, case.reducing, width, height)
                 || bad_length(case.out.len(), 4, width, height)
                 || bad_cells(&case.cells, case.kind, width, height)
                 || bad_rooms(&case.places, &case.oklab),
@@ -309,17 +319,17 @@ fn dither_to_mode(case: &ToMode) -> Answer {
         let rooms = Collected { count: None, places: case.places.clone(), oklab: case.oklab.clone() };
         return to_mode_answer(number, None, rooms, &case.out, &case.cells);
     }
-    let tables = accepted_tables(&case.tables);
-    let how = How::lent(case.shift, &tables);
-    let rooms = collect(how, [case.width, case.height], &case.pixels, &case.places, &case.oklab);
+    let tables = case.tables.accepted();
+    let lent = case.lent(&tables);
+    let rooms = collect(lent, [case.width, case.height], &case.places, &case.oklab);
     if rooms.count.is_none() {
         return to_mode_answer(7, None, rooms, &case.out, &case.cells);
     }
     let settings = settings_of(case);
-    match original::dither_to_mode(how, &settings, &case.pixels) {
+    match original::dither_to_mode(How::lent(lent), &settings, &case.pixels) {
         Some((out, cells)) => to_mode_answer(0, None, rooms, &out, &left_cells(&cells)),
         None => {
-            let model = model::dither_to_mode(case.shift, &settings, &tables, &case.pixels);
+            let model = model::dither_to_mode(lent, &settings);
             let tile = model.tile.expect("the original says that a tile is over its limit, the model does not");
             let zeros = (vec![0; case.out.len()], vec![0; case.cells.len()]);
             to_mode_answer(8, Some(tile as u32), rooms, &zeros.0, &zeros.1)

@@ -29,6 +29,10 @@ fn lookup_tokens(lookup: &Lookup) -> Vec<String> {
     vec![hex(&list.reduced), hex(&list.normalized), float_hex(&list.oklab), hex(&lookup.color)]
 }
 
+fn pixel_tokens(pixels: &[u8], opaque: &[u8]) -> Vec<String> {
+    vec![hex(pixels), hex(opaque)]
+}
+
 /// The inputs of a case, without its tables.
 pub fn input_tokens(case: &Case) -> Vec<String> {
     match case {
@@ -49,17 +53,21 @@ pub fn input_tokens(case: &Case) -> Vec<String> {
             [vec![hex(&c.dark), hex(&c.light), float_hex(&[c.ratio])], words(&[c.kind, c.x, c.y])].concat()
         }
         Case::CandidateColorsIn(c) => {
-            [words(&[c.shift, c.width, c.height]), vec![hex(&c.pixels), hex(&c.places), float_hex(&c.oklab)]].concat()
+            let rooms = vec![hex(&c.places), float_hex(&c.oklab)];
+            [words(&[c.shift, c.reducing, c.width, c.height]), pixel_tokens(&c.pixels, &c.opaque), rooms].concat()
         }
         Case::QuantizePixels(c) => [
-            words(&[c.shift, c.kind, c.width, c.height]),
-            vec![hex(&c.palette), hex(&c.pixels), hex(&c.indices), hex(&c.out), cell_hex(&c.cells)],
+            words(&[c.shift, c.reducing, c.kind, c.width, c.height]),
+            vec![hex(&c.palette)],
+            pixel_tokens(&c.pixels, &c.opaque),
+            vec![hex(&c.indices), hex(&c.out), cell_hex(&c.cells)],
         ]
         .concat(),
         Case::DitherToMode(c) => [
-            words(&[c.shift, c.kind, c.width, c.height]),
+            words(&[c.shift, c.reducing, c.kind, c.width, c.height]),
             words(&[c.origin[0], c.origin[1], c.tile[0], c.tile[1], c.limit]),
-            vec![hex(&[u8::from(c.has_zero != 0)]), hex(&c.zero), hex(&c.pixels)],
+            vec![hex(&[u8::from(c.has_zero != 0)]), hex(&c.zero)],
+            pixel_tokens(&c.pixels, &c.opaque),
             vec![hex(&c.places), float_hex(&c.oklab), hex(&c.out), cell_hex(&c.cells)],
         ]
         .concat(),
@@ -113,11 +121,11 @@ fn labels(call: Call) -> &'static str {
         Call::Nearest => "reduced normalized oklab color",
         Call::NearestTwo | Call::OrderedBracket => "reduced normalized oklab color width#",
         Call::Pick => "dark light ratio kind# x# y#",
-        Call::CandidateColorsIn => "shift# width# height# pixels places oklab",
-        Call::QuantizePixels => "shift# kind# width# height# palette pixels indices out cells",
+        Call::CandidateColorsIn => "shift# reducing# width# height# pixels opaque places oklab",
+        Call::QuantizePixels => "shift# reducing# kind# width# height# palette pixels opaque indices out cells",
         Call::DitherToMode => {
-            "shift# kind# width# height# origin_x# origin_y# tile_width# tile_height# limit# has_zero# zero \
-             pixels places oklab out cells"
+            "shift# reducing# kind# width# height# origin_x# origin_y# tile_width# tile_height# limit# has_zero# \
+             zero pixels opaque places oklab out cells"
         }
     }
 }

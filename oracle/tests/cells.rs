@@ -88,6 +88,7 @@ fn eight_clears_the_cells_and_other_refusals_leave_them() {
     let Case::DitherToMode(fine) = to_mode(FLOYD_STEINBERG, 4, 12) else { unreachable!() };
     let refused = [
         (1, ToMode { shift: 6, ..fine.clone() }),
+        (1, ToMode { reducing: 1, ..fine.clone() }),
         (15, ToMode { kind: 5, ..fine.clone() }),
         (2, ToMode { width: 4097, ..fine.clone() }),
         (3, ToMode { out: vec![], ..fine.clone() }),
@@ -129,7 +130,7 @@ fn a_cell_is_four_digits_of_the_recorded_list() {
     let case = Case::QuantizePixels(Quantize { cells: vec![-8, 8, 0, i16::MIN, i16::MAX, -1], ..case });
     let written = line(&case, &expected(&case));
     let tokens: Vec<&str> = written.split(' ').collect();
-    assert_eq!(tokens[9], "fff80008000080007fffffff");
+    assert_eq!(tokens[11], "fff80008000080007fffffff");
     assert_eq!(tokens.last(), Some(&"000000000000023002300230"));
 }
 

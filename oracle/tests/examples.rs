@@ -3,8 +3,7 @@
 use oracle::account::{account, loss};
 use oracle::case::{Answer, Case, Value};
 use oracle::examples;
-use oracle::hooks::Tables;
-use oracle::model::{self, ATKINSON, FLOYD_STEINBERG, Picture, Pixel};
+use oracle::model::{self, ATKINSON, FLOYD_STEINBERG, Lent, Picture, Pixel};
 use oracle::original::{self, own_tables};
 use oracle::reference::expected;
 
@@ -17,7 +16,7 @@ fn tile(answer: &Answer) -> Option<u32> {
 
 #[test]
 fn e1_widths() {
-    for (shift, max, width) in [(3, 16, 3), (3, 8, 2), (4, 2, 1), (3, 0, 1), (5, 256, 16)] {
+    for (shift, max, width) in [(3, 16, 3), (3, 8, 2), (4, 2, 1), (3, 0, 1), (5, 256, 16), (6, 4, 2), (6, 1, 1)] {
         assert_eq!(original::bracket_width(shift, max), width);
         assert_eq!(model::bracket_width(shift, max), width);
     }
@@ -77,12 +76,12 @@ fn e6_biased_and_loss() {
 fn terms(case: &Case) -> [i64; 5] {
     let Case::QuantizePixels(c) = case else { panic!() };
     let tables = own_tables(3, false);
-    let ours = model::quantize_pixels(c.shift, c.kind, [c.width, c.height], &tables, &c.palette, &c.pixels);
+    let ours = model::quantize_pixels(c.lent(&tables), c.kind, [c.width, c.height], &c.palette);
     let theirs = expected(case);
     assert_eq!(theirs.0[1].1, Value::Bytes(ours.indices));
     assert_eq!(theirs.0[2].1, Value::Bytes(ours.out));
     assert_eq!(theirs.0[3].1, Value::Cells(ours.cells));
-    let picture = bare(c.kind, [c.width, c.height], &tables);
+    let picture = bare(c.kind, [c.width, c.height], c.lent(&tables));
     let all: Vec<[i64; 5]> = (0..3)
         .map(|channel| {
             let a = account(&picture, &ours.drawn, channel);
@@ -94,8 +93,8 @@ fn terms(case: &Case) -> [i64; 5] {
     all[0]
 }
 
-fn bare(kind: u32, [width, height]: [u32; 2], tables: &Tables) -> Picture<'_> {
-    Picture { kind, width, height, origin: [0, 0], zero: None, tables, pixels: &[], candidates: &[], bracket_width: 1 }
+fn bare(kind: u32, [width, height]: [u32; 2], lent: Lent<'_>) -> Picture<'_> {
+    Picture { kind, width, height, origin: [0, 0], zero: None, lent, candidates: &[], bracket_width: 1 }
 }
 
 #[test]

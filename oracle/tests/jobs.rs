@@ -35,7 +35,7 @@ fn each_with_each() {
         let (mode, rounding) = (word(&job, "--mode", "Snes"), word(&job, "--rounding", "truncate"));
         met.insert([job.words[0].clone(), mode.into(), kind.to_string(), rounding.into()]);
     }
-    assert_eq!(met.len(), 2 * 12 * DRAWN.len() * 2);
+    assert_eq!(met.len(), 2 * 16 * DRAWN.len() * 2);
 }
 
 #[test]
@@ -51,7 +51,7 @@ fn retired_kinds_are_refused_by_name_and_by_number() {
         jobs += 1;
         left += u32::from(job.before.contains_key("out.pam"));
     }
-    assert_eq!((jobs, passes.len(), modes.len()), (EACH_WITH_EACH / 10, 2, 12));
+    assert_eq!((jobs, passes.len(), modes.len()), (EACH_WITH_EACH / 10, 2, 16));
     assert!(words.iter().map(String::as_str).eq(["5", "6", "StippleH", "StippleV"]), "{words:?}");
     // An output that stands there, and a place that is free.
     assert!(left > 0 && u64::from(left) < jobs);

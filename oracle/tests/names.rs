@@ -8,10 +8,10 @@ mod names;
 #[path = "../../cli/src/tables.rs"]
 mod tables;
 
-use names::{KINDS, LEFT_OUT, MODES, same};
+use names::{KINDS, MODES, Reducing, same};
 use oracle::mode::Mode::{self, *};
 use oracle::mode::color::ModeColor;
-use oracle::model::RETIRED;
+use oracle::model::{BY_ALPHA, GREY, OPAQUE_COLOR, PAIRINGS, RETIRED};
 use oracle::original::{kind_names, kind_numbers, modes_of, own_tables};
 use tables::{ModeTables, Rounding};
 
@@ -32,17 +32,24 @@ fn same_names<'a>(ours: impl Iterator<Item = &'a str>, theirs: &[String]) -> boo
     ours.len() == theirs.len() && theirs.iter().all(|name| ours.iter().any(|word| same(word, name)))
 }
 
+/// A reduction by the number that a call names it with.
+fn number_of(reducing: Reducing) -> u32 {
+    match reducing {
+        Reducing::ByAlpha => BY_ALPHA,
+        Reducing::Grey => GREY,
+        Reducing::OpaqueColor => OPAQUE_COLOR,
+    }
+}
+
 #[test]
 fn modes() {
-    for shift in 3..=5 {
-        let ours = MODES.iter().filter(|mode| mode.shift == shift).map(|mode| mode.name);
-        assert!(same_names(ours, &names_of(modes_of(shift).iter().copied())), "shift {shift}");
-        assert!(modes_of(shift).iter().all(|mode| u32::from(mode.channel_shift()) == shift), "shift {shift}");
+    for [shift, reducing] in PAIRINGS {
+        let ours = MODES.iter().filter(|mode| [mode.shift, number_of(mode.reducing)] == [shift, reducing]);
+        let theirs = modes_of(shift, reducing);
+        assert!(same_names(ours.map(|mode| mode.name), &names_of(theirs.iter().copied())), "{shift} {reducing}");
+        assert!(theirs.iter().all(|mode| u32::from(mode.channel_shift()) == shift), "{shift} {reducing}");
     }
-    assert!(MODES.iter().all(|mode| (3..=5).contains(&mode.shift)));
-    let ported: Vec<Mode> = (3..=5).flat_map(modes_of).copied().collect();
-    let rest = names_of(ALL.into_iter().filter(|mode| !ported.contains(mode)));
-    assert!(same_names(LEFT_OUT.into_iter(), &rest), "{rest:?}");
+    assert!(same_names(MODES.iter().map(|mode| mode.name), &names_of(ALL.into_iter())));
 }
 
 /// A name as clap's `snake_case` has it.
@@ -89,7 +96,7 @@ fn retired_kinds() {
 
 #[test]
 fn own_tables_are_the_originals() {
-    for shift in 3..=5 {
+    for shift in 3..=6 {
         for rounding in [Rounding::Truncate, Rounding::Nearest] {
             let ours = ModeTables::new(shift, rounding);
             let theirs = own_tables(shift, rounding == Rounding::Nearest);

@@ -65,7 +65,7 @@ fn palette_of_twins(rng: &mut Rng) -> Vec<u8> {
 /// The original's own tables, or ones whose scale gives different reduced colours
 /// one normalised colour.
 fn tables(rng: &mut Rng) -> Tables {
-    let own = own_tables(rng.within(3, 5) as u32, rng.one_in(2));
+    let own = own_tables(rng.within(3, 6) as u32, rng.one_in(2));
     let few = [rng.byte(), rng.byte(), rng.byte()];
     if rng.one_in(3) { Tables { scale: std::array::from_fn(|_| rng.pick(&few)), ..own } } else { own }
 }
@@ -101,7 +101,7 @@ fn entries_taken(case: &Quantize, tables: &Tables) -> Vec<Option<usize>> {
     // The colours that are looked up are the source's with the error that reached
     // them, which the self-check holds to the original's.
     let [w, h] = [case.width, case.height];
-    let drawn = model::quantize_pixels(case.shift, case.kind, [w, h], tables, &case.palette, &case.pixels).drawn;
+    let drawn = model::quantize_pixels(case.lent(tables), case.kind, [w, h], &case.palette).drawn;
     let taken = |(i, pixel): (usize, &model::Pixel)| {
         pixel.chosen?;
         if model::threshold(case.kind, 0, 0).is_none() {
@@ -120,9 +120,8 @@ fn indices_are_the_positions_taken() {
     for number in 0..600 {
         let case = generate::case(Call::QuantizePixels, 1, number, style);
         let (0, Case::QuantizePixels(c)) = (expected(&case).number(), &case) else { continue };
-        let [reduction, scale] = [&c.tables.reduction, &c.tables.scale].map(|t| t[..].try_into().unwrap());
-        let tables = Tables { reduction, scale };
-        let how = original::How::lent(c.shift, &tables);
+        let tables = c.tables.accepted();
+        let how = original::How::lent(c.lent(&tables));
         let indices = original::quantize_pixels(how, c.kind, c.width, c.height, &c.palette, &c.pixels).indices;
         let taken: Vec<u8> = entries_taken(c, &tables).iter().map(|at| at.unwrap_or(0) as u8).collect();
         assert_eq!(taken, indices, "case {number}");

@@ -145,7 +145,7 @@ fn hold(call: Call, numbers: &[u32], cases: impl Iterator<Item = Case>) {
 #[test]
 fn random_cases_have_every_number_behind_fifteen() {
     for (call, numbers, _) in CALLS {
-        hold(call, numbers, (0..1000).map(|number| generate::case(call, 1, number, Style::DRIVER)));
+        hold(call, numbers, (0..2000).map(|number| generate::case(call, 1, number, Style::DRIVER)));
     }
 }
 

@@ -6,20 +6,28 @@
 //!
 //!   differences [--seed N] [--pictures N]
 //!
-//! The pictures, 64x64 each: for every kind that the port draws and every shift,
-//! N of noise and N gradients between two random colours, with the original's own
-//! tables of both roundings in turn; against a palette of 16 random colours
-//! (quantize_pixels), and to the mode with tiles of 8x8 and limit 256, so that
-//! no tile is over it (dither_to_mode).
+//! The pictures, 64x64 each: for every kind that the port draws and every mode that
+//! reduces in its own way, N of noise and N gradients between two random colours, with
+//! the original's own tables of both roundings in turn; against a palette of 16 random
+//! colours, or of all greys that the mode has (quantize_pixels), and to the mode with
+//! tiles of 8x8 and limit 256, so that no tile is over it (dither_to_mode). Modes that
+//! reduce by alpha have a table of their own.
 
 use oracle::hooks::Tables;
-use oracle::model::DRAWN;
-use oracle::original::{self, How, Records, Settings, own_tables};
+use oracle::model::{BY_ALPHA, DRAWN, GREY, Lent, OPAQUE_COLOR};
+use oracle::original::{self, How, Records, Settings, own_opaque, own_tables};
 use oracle::rng::Rng;
 use oracle::words::number_after;
 use quantette::{Conversion, Root, with_conversion, with_root};
 
 const SIDE: u32 = 64;
+
+/// The modes of each table, by shift and reduction: one for each pairing. Ngp and Ws are
+/// one, and so are the twelve by their shifts.
+const TABLES: [(&str, [[u32; 2]; 3]); 2] = [
+    ("modes that reduce by alpha, of shift 3, 4 and 5", [[3, BY_ALPHA], [4, BY_ALPHA], [5, BY_ALPHA]]),
+    ("Ngp and Ws, Gb, Sms", [[5, GREY], [6, GREY], [6, OPAQUE_COLOR]]),
+];
 
 /// Before the request and after it.
 const ROOTS: [Root; 2] = [Root::Down, Root::Nearest];
@@ -116,7 +124,7 @@ fn print_greys() {
     println!("| of the 256 greys | root downward | nearest root | published, f64 | published, f32 |");
     println!("|---|---|---|---|---|");
     greys("have no tint", |_, k| original::to_oklab([k; 3])[1..] == [0.0, 0.0], &[]);
-    for shift in 3..=5 {
+    for shift in 3..=6 {
         let is_tinted = |records: &Records, k| {
             let [r, g, b, _] = records.nearest([k; 3]);
             r != g || g != b
@@ -134,33 +142,40 @@ fn to_mode(how: How, kind: u32, pixels: &[u8]) -> Vec<u8> {
     original::dither_to_mode(how, &settings, pixels).expect("64 pixels have at most 64 colours").0
 }
 
+/// Sixteen random colours of a shift, or all greys.
+fn palette([shift, reducing]: [u32; 2], rng: &mut Rng) -> Vec<u8> {
+    let top = 255 >> shift;
+    if reducing == GREY {
+        return (0..=top).flat_map(|grey| [grey, grey, grey, 255]).collect();
+    }
+    (0..16).flat_map(|_| [rng.byte() & top, rng.byte() & top, rng.byte() & top, 255]).collect()
+}
+
 /// All pictures of one kind: quantize_pixels, dither_to_mode.
-fn of_kind(kind: u32, seed: u64, pictures: u64) -> [Count; 2] {
+fn of_kind(modes: [[u32; 2]; 3], kind: u32, seed: u64, pictures: u64) -> [Count; 2] {
     let mut counts: [Count; 2] = Default::default();
     for turn in 0..3 * 2 * pictures {
-        let (shift, is_noise) = (turn as u32 % 3 + 3, turn / 3 % 2 == 0);
+        let ([shift, reducing], is_noise) = (modes[turn as usize % 3], turn / 3 % 2 == 0);
         let mut rng = Rng::new(seed + 1000 * u64::from(kind) + turn);
         let tables: Tables = own_tables(shift, turn / 6 % 2 == 1);
         let pixels = if is_noise { noise(&mut rng) } else { gradient(&mut rng) };
-        let top = 255 >> shift;
-        let palette: Vec<u8> =
-            (0..16).flat_map(|_| [rng.byte() & top, rng.byte() & top, rng.byte() & top, 255]).collect();
-        let how = How::lent(shift, &tables);
+        let palette = palette([shift, reducing], &mut rng);
+        let opaque = own_opaque(&pixels);
+        let how = How::lent(Lent { shift, reducing, tables: &tables, pixels: &pixels, opaque: &opaque });
         counts[0].add(|| quantized(how, kind, &palette, &pixels));
         counts[1].add(|| to_mode(how, kind, &pixels));
     }
     counts
 }
 
-fn main() {
-    let (seed, pictures) = (number_after("--seed", 1), number_after("--pictures", 4));
-    println!("seed {seed}, {} pictures of 64x64 for each kind and call\n", 6 * pictures);
-    println!("differ under the published conversion, in f64 / f32:\n");
+/// The table of some modes.
+fn print_modes((what, modes): (&str, [[u32; 2]; 3]), seed: u64, pictures: u64) {
+    println!("{what}: differ under the published conversion, in f64 / f32:\n");
     println!("| call and kind | pixels | root downward | nearest root | nearest from downward |");
     println!("|---|---|---|---|---|");
     let mut total = Count::default();
     for (name, kind) in NAMES.into_iter().zip(DRAWN) {
-        let counts = of_kind(kind, seed, pictures);
+        let counts = of_kind(modes, kind, seed, pictures);
         for (count, call) in counts.iter().zip(["quantize_pixels", "dither_to_mode"]) {
             count.print(&format!("{call}, {name}"));
             total.add_all(count);
@@ -168,5 +183,11 @@ fn main() {
     }
     total.print("together");
     println!();
+}
+
+fn main() {
+    let (seed, pictures) = (number_after("--seed", 1), number_after("--pictures", 4));
+    println!("seed {seed}, {} pictures of 64x64 for each table, kind and call\n", 6 * pictures);
+    TABLES.into_iter().for_each(|table| print_modes(table, seed, pictures));
     print_greys();
 }

@@ -30,14 +30,15 @@ fn main() -> Result<(), Refusal> {
         let (mut indices, mut out) = ([0; PIXELS], [0; 4 * PIXELS]);
         let mut cells = vec![0; if kind::is_diffusion(kind) { 3 * PIXELS } else { 0 }];
         let output = Output { out: &mut out, cells: &mut cells };
-        quantize_pixels(3, kind, picture, tables, &palette, &mut indices, output)?;
+        quantize_pixels(3, Reducing::ByAlpha, kind, picture, tables, &palette, &mut indices, output)?;
         print(name, &indices);
     }
 
     // Each tile of 8x8 has eight columns of the gradient, so a limit of four is too low for it.
     for limit in [8, 4] {
         let (mut places, mut oklab, mut out) = ([0; 4 * 32], [0.0; 3 * 32], [0; 4 * PIXELS]);
-        let settings = Settings { shift: 3, kind: kind::OFF, origin: [0, 0], tile: [8, 8], limit, color_zero: None };
+        let (shift, reducing, kind) = (3, Reducing::ByAlpha, kind::OFF);
+        let settings = Settings { shift, reducing, kind, origin: [0, 0], tile: [8, 8], limit, color_zero: None };
         let rooms = Rooms { places: &mut places, oklab: &mut oklab };
         match dither_to_mode(settings, picture, tables, rooms, Output { out: &mut out, cells: &mut [] }) {
             Ok(count) => println!("limit {limit}: {count} candidates, every tile within its limit"),

@@ -41,23 +41,25 @@ extern "C" {
     ) -> u32;
 
     pub fn badge_candidate_colors_in(
-        shift: u32, width: u32, height: u32,
-        reduction: Bytes, reduction_len: usize, scale: Bytes, scale_len: usize, pixels: Bytes, pixels_len: usize,
+        shift: u32, reducing: u32, width: u32, height: u32,
+        reduction: Bytes, reduction_len: usize, scale: Bytes, scale_len: usize,
+        pixels: Bytes, pixels_len: usize, opaque: Bytes, opaque_len: usize,
         places: *mut u8, places_len: usize, oklab: *mut f32, oklab_len: usize, count: *mut u32,
     ) -> u32;
 
     pub fn badge_quantize_pixels(
-        shift: u32, kind: u32, width: u32, height: u32,
+        shift: u32, reducing: u32, kind: u32, width: u32, height: u32,
         reduction: Bytes, reduction_len: usize, scale: Bytes, scale_len: usize,
-        palette: Bytes, palette_len: usize, pixels: Bytes, pixels_len: usize,
+        palette: Bytes, palette_len: usize, pixels: Bytes, pixels_len: usize, opaque: Bytes, opaque_len: usize,
         indices: *mut u8, indices_len: usize, out: *mut u8, out_len: usize, cells: *mut i16, cells_len: usize,
     ) -> u32;
 
     pub fn badge_dither_to_mode(
-        shift: u32, kind: u32, width: u32, height: u32,
+        shift: u32, reducing: u32, kind: u32, width: u32, height: u32,
         origin_x: u32, origin_y: u32, tile_width: u32, tile_height: u32, limit: u32,
         has_zero: u32, zero_r: u8, zero_g: u8, zero_b: u8, zero_a: u8,
-        reduction: Bytes, reduction_len: usize, scale: Bytes, scale_len: usize, pixels: Bytes, pixels_len: usize,
+        reduction: Bytes, reduction_len: usize, scale: Bytes, scale_len: usize,
+        pixels: Bytes, pixels_len: usize, opaque: Bytes, opaque_len: usize,
         places: *mut u8, places_len: usize, oklab: *mut f32, oklab_len: usize,
         out: *mut u8, out_len: usize, cells: *mut i16, cells_len: usize,
         count: *mut u32, tile: *mut u32,

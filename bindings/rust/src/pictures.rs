@@ -5,11 +5,10 @@
 //! only reads may share memory, as nothing writes to them.
 
 use crate::c;
-use crate::{ReducedColor, Refusal};
+use crate::{ReducedColor, Reducing, Refusal};
 
-/// A picture, row by row, four bytes a pixel. A pixel whose alpha is below 128
-/// is transparent. Width and height are 0 to 4,096, with at most 1,048,576
-/// pixels.
+/// A picture, row by row, four bytes a pixel. Width and height are 0 to 4,096,
+/// with at most 1,048,576 pixels.
 #[derive(Clone, Copy, Debug)]
 pub struct Picture<'a> {
     /// Pixels in a row.
@@ -20,7 +19,8 @@ pub struct Picture<'a> {
     pub pixels: &'a [u8],
 }
 
-/// The two tables of 256 bytes that say how a mode reduces colours.
+/// The two tables of 256 bytes that say how a mode reduces a channel, and how a
+/// reduced one is scaled up again.
 #[derive(Clone, Copy, Debug)]
 pub struct Tables<'a> {
     /// The console's own value for each channel value.
@@ -52,9 +52,11 @@ pub struct Output<'a> {
 
 /// How a picture is dithered to a mode.
 #[derive(Clone, Copy, Debug, PartialEq, Eq)]
-pub struct Settings {
-    /// The shift of the mode: 3, 4 or 5.
+pub struct Settings<'a> {
+    /// The shift of the mode: 3, 4, 5 or 6.
     pub shift: u32,
+    /// How the mode reduces a pixel.
+    pub reducing: Reducing<'a>,
     /// The kind of dithering, see [`kind`](crate::kind).
     pub kind: u32,
     /// Where in a larger picture this one begins, in columns and rows:
@@ -64,7 +66,8 @@ pub struct Settings {
     pub tile: [u32; 2],
     /// How many colours a tile may have, 0 to 256.
     pub limit: u32,
-    /// Pixels that reduce to this red, green and blue keep it.
+    /// Pixels that reduce to this red, green and blue keep it and pass no error
+    /// on.
     pub color_zero: Option<ReducedColor>,
 }
 
@@ -73,15 +76,22 @@ pub struct Settings {
 /// are; they stand at the front of the rooms, and places after them are as
 /// they were.
 ///
-/// Refuses with 1 (the shift), 2, 3 and 7.
+/// Refuses with 1 (shift and reduction), 2, 3 and 7.
 #[rustfmt::skip]
-pub fn candidate_colors_in(shift: u32, picture: Picture, tables: Tables, rooms: Rooms) -> Result<usize, Refusal> {
-    let mut count = 0;
+pub fn candidate_colors_in(
+    shift: u32,
+    reducing: Reducing,
+    picture: Picture,
+    tables: Tables,
+    rooms: Rooms,
+) -> Result<usize, Refusal> {
+    let (opaque, mut count) = (reducing.opaque(), 0);
     // SAFETY: as the head of this file says.
     let number = unsafe {
         c::badge_candidate_colors_in(
-            shift, picture.width, picture.height, tables.reduction.as_ptr(), tables.reduction.len(),
-            tables.scale.as_ptr(), tables.scale.len(), picture.pixels.as_ptr(), picture.pixels.len(),
+            shift, reducing.number(), picture.width, picture.height,
+            tables.reduction.as_ptr(), tables.reduction.len(), tables.scale.as_ptr(), tables.scale.len(),
+            picture.pixels.as_ptr(), picture.pixels.len(), opaque.as_ptr(), opaque.len(),
             rooms.places.as_mut_ptr(), rooms.places.len(), rooms.oklab.as_mut_ptr(), rooms.oklab.len(), &mut count,
         )
     };
@@ -94,8 +104,10 @@ pub fn candidate_colors_in(shift: u32, picture: Picture, tables: Tables, rooms: 
 ///
 /// Refuses with 1, 15, 2, 3 and 4.
 #[rustfmt::skip]
+#[allow(clippy::too_many_arguments, reason = "they are the C call's, in its order")]
 pub fn quantize_pixels(
     shift: u32,
+    reducing: Reducing,
     kind: u32,
     picture: Picture,
     tables: Tables,
@@ -103,12 +115,14 @@ pub fn quantize_pixels(
     indices: &mut [u8],
     output: Output,
 ) -> Result<(), Refusal> {
+    let opaque = reducing.opaque();
     // SAFETY: as the head of this file says.
     let number = unsafe {
         c::badge_quantize_pixels(
-            shift, kind, picture.width, picture.height, tables.reduction.as_ptr(), tables.reduction.len(),
-            tables.scale.as_ptr(), tables.scale.len(), palette.as_ptr(), palette.len(),
-            picture.pixels.as_ptr(), picture.pixels.len(), indices.as_mut_ptr(), indices.len(),
+            shift, reducing.number(), kind, picture.width, picture.height,
+            tables.reduction.as_ptr(), tables.reduction.len(), tables.scale.as_ptr(), tables.scale.len(),
+            palette.as_ptr(), palette.len(), picture.pixels.as_ptr(), picture.pixels.len(),
+            opaque.as_ptr(), opaque.len(), indices.as_mut_ptr(), indices.len(),
             output.out.as_mut_ptr(), output.out.len(), output.cells.as_mut_ptr(), output.cells.len(),
         )
     };
@@ -130,14 +144,15 @@ pub fn dither_to_mode(
     output: Output,
 ) -> Result<usize, Refusal> {
     let [zero_r, zero_g, zero_b, zero_a] = settings.color_zero.unwrap_or(ReducedColor::TRANSPARENT).0;
-    let (mut count, mut tile) = (0, 0);
+    let (opaque, mut count, mut tile) = (settings.reducing.opaque(), 0, 0);
     // SAFETY: as the head of this file says.
     let number = unsafe {
         c::badge_dither_to_mode(
-            settings.shift, settings.kind, picture.width, picture.height, settings.origin[0], settings.origin[1],
-            settings.tile[0], settings.tile[1], settings.limit, u32::from(settings.color_zero.is_some()), zero_r,
-            zero_g, zero_b, zero_a, tables.reduction.as_ptr(), tables.reduction.len(),
-            tables.scale.as_ptr(), tables.scale.len(), picture.pixels.as_ptr(), picture.pixels.len(),
+            settings.shift, settings.reducing.number(), settings.kind, picture.width, picture.height,
+            settings.origin[0], settings.origin[1], settings.tile[0], settings.tile[1], settings.limit,
+            u32::from(settings.color_zero.is_some()), zero_r, zero_g, zero_b, zero_a,
+            tables.reduction.as_ptr(), tables.reduction.len(), tables.scale.as_ptr(), tables.scale.len(),
+            picture.pixels.as_ptr(), picture.pixels.len(), opaque.as_ptr(), opaque.len(),
             rooms.places.as_mut_ptr(), rooms.places.len(), rooms.oklab.as_mut_ptr(), rooms.oklab.len(),
             output.out.as_mut_ptr(), output.out.len(), output.cells.as_mut_ptr(), output.cells.len(), &mut count,
             &mut tile,

@@ -12,7 +12,8 @@ use std::fmt;
 /// [`TileOver`](Refusal::TileOver).
 #[derive(Clone, Copy, Debug, PartialEq, Eq, Hash)]
 pub enum Refusal {
-    /// 1: a kind above 10, or a shift that is not 3, 4 or 5.
+    /// 1: a kind above 10, a shift that does not go with the reduction, or in
+    /// [`bracket_width`](crate::bracket_width) one that is not from 3 to 6.
     KindOrShift,
     /// 2: a side above 4,096, more than 1,048,576 pixels, or an origin and a
     /// side that add up to more than 4,294,967,295.
@@ -99,7 +100,7 @@ impl Refusal {
 impl fmt::Display for Refusal {
     fn fmt(&self, f: &mut fmt::Formatter<'_>) -> fmt::Result {
         let why = match self {
-            Refusal::KindOrShift => "no such kind or shift",
+            Refusal::KindOrShift => "no such kind or shift, or a shift that does not go with the reduction",
             Refusal::Size => "the picture is too large",
             Refusal::Length => "a length is wrong",
             Refusal::Entries => "the palette or list is empty or too long",

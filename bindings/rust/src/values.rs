@@ -62,8 +62,8 @@ pub fn ordered_threshold(kind: u32, x: u32, y: u32) -> Result<f32, Refusal> {
 }
 
 /// How many candidates beside the nearest are considered for a mix, where a
-/// palette or tile has `max` colours: 1 to 16. Refuses with
-/// [`KindOrShift`](Refusal::KindOrShift).
+/// palette or tile has `max` colours: 1 to 16. The shift is 3 to 6; another is
+/// refused with [`KindOrShift`](Refusal::KindOrShift).
 pub fn bracket_width(shift: u32, max: u64) -> Result<u64, Refusal> {
     let mut width = 0;
     // SAFETY: the pointer is to a live value.

@@ -128,7 +128,7 @@ fn candidates_ascend_and_places_after_them_stay() {
     let t = five_bits();
     let pixels = [grey(255), grey(0), CLEAR, [0, 8, 0, 255], grey(255)].concat();
     let mut lent = Lent::new(5, 0, 4);
-    assert_eq!(candidate_colors_in(3, row(&pixels), t.tables(), lent.rooms()), Ok(3));
+    assert_eq!(lent.candidates(3, row(&pixels), t.tables()), Ok(3));
     assert_eq!(lent.places, [BLACK, [0, 1, 0, 255], WHITE, [RUBBISH; 4]].concat());
     let white = to_oklab(NormalizedColor([255; 4]));
     assert_eq!(lent.oklab[6..], [white.l, white.a, white.b, ODD, ODD, ODD]);
@@ -184,7 +184,7 @@ fn pictures_without_pixels() {
             assert_eq!(lent.quantize(3, kind, picture, t.tables(), &BLACK), Ok(()));
             assert_eq!(lent.dither(settings(kind), picture, t.tables()), Ok(0));
         }
-        assert_eq!(candidate_colors_in(3, picture, t.tables(), Lent::new(0, 0, 0).rooms()), Ok(0));
+        assert_eq!(Lent::new(0, 0, 0).candidates(3, picture, t.tables()), Ok(0));
     }
 }
 

@@ -148,7 +148,10 @@ fn only_what_is_lent_is_written() {
     for kind in DIFFUSING {
         let (mut lent, mut one, mut other) = (Lent::new(2, kind, 2), [STRAY; 30], [STRAY; 30]);
         let output = Output { out: &mut lent.out, cells: &mut one[12..18] };
-        assert_eq!(quantize_pixels(3, kind, row(&pixels), t.tables(), &BLACK, &mut lent.indices, output), Ok(()));
+        assert_eq!(
+            quantize_pixels(3, Reducing::ByAlpha, kind, row(&pixels), t.tables(), &BLACK, &mut lent.indices, output),
+            Ok(())
+        );
         let rooms = Rooms { places: &mut lent.places, oklab: &mut lent.oklab };
         let output = Output { out: &mut lent.out, cells: &mut other[12..18] };
         assert_eq!(dither_to_mode(settings(kind), row(&pixels), t.tables(), rooms, output), Ok(2));

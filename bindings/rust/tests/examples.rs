@@ -12,7 +12,8 @@ fn rgb(r: u8, g: u8, b: u8) -> NormalizedColor {
 
 #[test]
 fn e1_widths() {
-    for (shift, max, width) in [(3, 16, 3), (3, 8, 2), (4, 2, 1), (3, 0, 1), (5, 256, 16)] {
+    let sixes = [(6, 16, 6), (6, 4, 2), (6, 2, 1), (6, 0, 1), (6, u64::MAX, 16)];
+    for (shift, max, width) in [(3, 16, 3), (3, 8, 2), (4, 2, 1), (3, 0, 1), (5, 256, 16)].into_iter().chain(sixes) {
         assert_eq!(bracket_width(shift, max), Ok(width), "shift {shift}, max {max}");
     }
 }

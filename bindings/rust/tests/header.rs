@@ -1,24 +1,28 @@
-//! The names and numbers of the kinds and of the refusals are those of the C
-//! header, none more and none less.
+//! The names and numbers of the kinds, of the reductions and of the refusals are
+//! those of the C header, none more and none less.
+
+use std::fmt::Debug;
 
 use badge_dither::*;
 
 const HEADER: &str = include_str!("../../../include/badge_dither.h");
 
-/// The constants of the header that begin so, without that beginning.
-fn constants(prefix: &str) -> Vec<(String, u32)> {
+/// The constants of an enum of the header that begin so, without that beginning.
+fn constants(name: &str, prefix: &str) -> Vec<(String, u32)> {
+    let (_, rest) = HEADER.split_once(&format!("enum {name} {{")).expect(name);
+    let (body, _) = rest.split_once("};").expect(name);
     let constant = |line: &str| {
         let (name, rest) = line.trim().strip_prefix(prefix)?.split_once(" = ")?;
         let digits = rest.split(|c: char| !c.is_ascii_digit()).next()?;
         Some((name.to_string(), digits.parse().ok()?))
     };
-    HEADER.lines().filter_map(constant).collect()
+    body.lines().filter_map(constant).collect()
 }
 
 /// `TileOver { tile: 1, count: 2 }` as a constant's name: `TILE_OVER`.
-fn constant_name(refusal: Refusal) -> String {
+fn constant_name(value: impl Debug) -> String {
     let mut name = String::new();
-    for letter in format!("{refusal:?}").chars().take_while(char::is_ascii_alphanumeric) {
+    for letter in format!("{value:?}").chars().take_while(char::is_ascii_alphanumeric) {
         if letter.is_ascii_uppercase() && !name.is_empty() {
             name.push('_');
         }
@@ -43,9 +47,15 @@ fn kinds() {
         ("STIPPLE_V", kind::STIPPLE_V),
         ("STIPPLE_H", kind::STIPPLE_H),
     ];
-    let mut there = constants("BADGE_");
-    there.retain(|(name, _)| name != "ACCEPTED" && !name.starts_with("REFUSED_"));
+    let there = constants("badge_kind", "BADGE_");
     assert_eq!(here.map(|(name, number)| (name.to_string(), number)).as_slice(), there);
+}
+
+#[test]
+fn reductions() {
+    let here = [Reducing::ByAlpha, Reducing::Grey(&[7]), Reducing::OpaqueColor(&[7])];
+    let there = constants("badge_reducing", "BADGE_");
+    assert_eq!(here.map(|reducing| (constant_name(reducing), reducing.number())).as_slice(), there);
 }
 
 #[test]
@@ -64,5 +74,6 @@ fn refusals() {
         Refusal::PamPixels,
         Refusal::RetiredKind,
     ];
-    assert_eq!(here.map(|refusal| (constant_name(refusal), refusal.number())).as_slice(), constants("BADGE_REFUSED_"));
+    let there = constants("badge_refusal", "BADGE_REFUSED_");
+    assert_eq!(here.map(|refusal| (constant_name(refusal), refusal.number())).as_slice(), there);
 }

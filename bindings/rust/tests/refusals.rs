@@ -21,8 +21,9 @@ fn lookups(list: Candidates) -> [Option<u32>; 3] {
 #[test]
 fn single_values() {
     assert_eq!(ordered_threshold(11, 0, 0), Err(Refusal::KindOrShift));
-    assert_eq!(bracket_width(2, 8), Err(Refusal::KindOrShift));
-    assert_eq!(bracket_width(u32::MAX, u64::MAX), Err(Refusal::KindOrShift));
+    for shift in [0, 1, 2, 7, 8, u32::MAX] {
+        assert_eq!(bracket_width(shift, 8), Err(Refusal::KindOrShift), "shift {shift}");
+    }
     for kind in [kind::OFF, kind::ATKINSON, kind::FLOYD_STEINBERG] {
         assert_eq!(ordered_threshold(kind, 0, 0), Err(Refusal::NoMatrix));
     }
@@ -113,7 +114,7 @@ fn tables_of_another_length() {
             let mut lent = Lent::new(1, 0, 1);
             assert_eq!(lent.quantize(3, 0, row(&BLACK), tables, &BLACK), Err(Refusal::Length));
             assert_eq!(lent.dither(settings(0), row(&BLACK), tables), Err(Refusal::Length));
-            assert_eq!(candidate_colors_in(3, row(&BLACK), tables, lent.rooms()), Err(Refusal::Length));
+            assert_eq!(lent.candidates(3, row(&BLACK), tables), Err(Refusal::Length));
             assert_eq!(lent, Lent::new(1, 0, 1));
         }
     }
@@ -194,7 +195,7 @@ fn too_many_candidates() {
     let left = Lent { places: vec![0; 8], ..was.clone() };
 
     let mut lent = was.clone();
-    assert_eq!(candidate_colors_in(3, row(&pixels), t.tables(), lent.rooms()), Err(Refusal::TooManyCandidates));
+    assert_eq!(lent.candidates(3, row(&pixels), t.tables()), Err(Refusal::TooManyCandidates));
     assert_eq!(lent, left);
 
     let mut lent = was.clone();
@@ -218,7 +219,7 @@ fn too_many_places() {
     let t = five_bits();
     for (places, answer) in [(65_536, Ok(1)), (65_537, Err(Refusal::Length))] {
         let mut lent = Lent::new(1, 0, places);
-        assert_eq!(candidate_colors_in(3, row(&BLACK), t.tables(), lent.rooms()), answer);
+        assert_eq!(lent.candidates(3, row(&BLACK), t.tables()), answer);
     }
 }
 
@@ -233,6 +234,6 @@ fn a_tile_over_its_limit() {
     assert_eq!((lent.out, lent.cells), (vec![0; 16], vec![0; 12]));
 
     let mut listed = Lent::new(4, 0, 4);
-    assert_eq!(candidate_colors_in(3, row(&pixels), t.tables(), listed.rooms()), Ok(3));
+    assert_eq!(listed.candidates(3, row(&pixels), t.tables()), Ok(3));
     assert_eq!((lent.places, lent.oklab), (listed.places, listed.oklab));
 }

@@ -15,8 +15,11 @@ use Rattle.replies.specs.Unique.{Unique}
 use Rattle.lists.proofs.Bools.{or-split, equals}
 use Rattle.replies.proofs.ReplyLaws.{reply-zero, reply-none, reply-at, reply-front, reply-other, none-both, after-refused}
 use Rattle.replies.proofs.AnswerLaws.{answers, answers-only, answers-lowest, value-number, value-other}
-use Rattle.picture.specs.Bounds.{lentWrong}
+use Rattle.reducing.specs.declared.Reducing.{Reducing}
+use Rattle.picture.specs.Bounds.{opaqueNeeded, lentWrong}
+use Rattle.picture.specs.Pixels.{basis, reducedBy}
 use Rattle.picture.proofs.BoundLaws.{sized, lent-so}
+use Rattle.candidates.specs.Candidates.{candidatesOf}
 use Rattle.candidates.specs.Rooms.{placesWith, oklabWith, tooMany, Collects}
 use Rattle.candidates.specs.Calls.{Asked, candidatesIn, lengthsOf, roomsWrong, lengthsWrong, checks, replies, CandidateColors}
 use Rattle.candidates.specs.Calls.{numberOf, answerOf, placesAfter, oklabAfter}
@@ -34,22 +37,32 @@ roomy places oklab e =
     let a = or-split (ltb (4 * 65536) places) _ (or-split (not (eqb (places % 4) 0)) _ e .1) in
     (ltb-false (4 * 65536) places (a .0), equals oklab (3 * (places / 4)) (a .1))
 
-pub record Ready (n : ℕ) (lent : Lengths) : Type 0 where
+pub record Ready (by : Reducing) (n : ℕ) (lent : Lengths) : Type 0 where
   pub size : n ≤ 1048576
   pub reduction : lent .reduction ≡ 256
   pub scale : lent .scale ≡ 256
   pub pixels : lent .pixels ≡ 4 * n
+  pub opaque : lent .opaque ≡ opaqueNeeded by n
   pub places : lent .places ≤ 4 * 65536
   pub oklab : lent .oklab ≡ 3 * (lent .places / 4)
 
-pub accepted : (shift width height : ℕ) (lent : Lengths) → firstReply (checks shift width height lent) ≡ 0 → Ready (width * height) lent
+pub accepted : (shift : ℕ) (by : Reducing) (width height : ℕ) (lent : Lengths) → firstReply (checks shift by width height lent) ≡ 0
+    → Ready by (width * height) lent
 unfolding lengthsWrong
-accepted shift width height lent e =
-    let none = reply-none (checks shift width height lent) tt e in
-    let a = or-split (lentWrong (lent .reduction) (lent .scale) (lent .pixels) (width * height)) _ (none .1 .1 .0) in
-    let so = lent-so (lent .reduction) (lent .scale) (lent .pixels) (width * height) (a .0) in
+accepted shift by width height lent e =
+    let none = reply-none (checks shift by width height lent) tt e in
+    let a = or-split (lentWrong by (lent .reduction) (lent .scale) (lent .pixels) (lent .opaque) (width * height)) _ (none .1 .1 .0) in
+    let so = lent-so by (lent .reduction) (lent .scale) (lent .pixels) (lent .opaque) (width * height) (a .0) in
     let room = roomy (lent .places) (lent .oklab) (a .1) in
-    record { size = sized width height (none .1 .0) .2; reduction = so .0; scale = so .1; pixels = so .2; places = room .0; oklab = room .1 }
+    record {
+      size = sized width height (none .1 .0) .2;
+      reduction = so .0;
+      scale = so .1;
+      pixels = so .2;
+      opaque = so .3;
+      places = room .0;
+      oklab = room .1;
+    }
 
 -- ---- the answers
 abbrev answer-from : Collected → CandidateCount
@@ -58,7 +71,7 @@ answer-from collected.TooMany = Refused 7
 
 module _ (x : Asked) where
   abbrev checked : List Reply
-  checked = checks (x .shift) (x .width) (x .height) (lengthsOf x)
+  checked = checks (x .shift) (x .reducing) (x .width) (x .height) (lengthsOf x)
 
   abbrev cs : List ReducedColor
   cs = candidatesIn x
@@ -91,10 +104,18 @@ module _ (x : Asked) where
       not-seven : r ≡ 7 → ⊥
       not-seven q = reply-other 7 checked tt (sym e ∙ q)
 
-  pub call-collected : firstReply checked ≡ 0 → {r s : Collected} {places : List ℕ} {oklab : List Float}
-      → Collects cs (x .scale) (x .places) (x .oklab) s places oklab → s ≡ r → CandidateColors x (answer-from r) places oklab
-  call-collected free {r} {s} {places} {oklab} p same = go full refl
+  -- what is collected of the pixels that reduce
+  pub call-collected : firstReply checked ≡ 0 → {pixels : List ℕ} → pixels ≡ basis (x .reducing) (x .pixels) (x .opaque)
+      → {r s : Collected} {places : List ℕ} {oklab : List Float}
+      → Collects (candidatesOf (reducedBy (x .reducing) (x .reduction) pixels) (x .width * x .height)) (x .scale) (x .places) (x .oklab) s places oklab
+      → s ≡ r → CandidateColors x (answer-from r) places oklab
+  unfolding candidatesIn
+  call-collected free {pixels} they-are {r} {s} {places} {oklab} of-these same = go full refl
     where
+      p : Collects cs (x .scale) (x .places) (x .oklab) s places oklab
+      p = subst (λ (l : List ℕ). Collects (candidatesOf (reducedBy (x .reducing) (x .reduction) l) (x .width * x .height)) (x .scale) (x .places) (x .oklab) s places oklab)
+          they-are of-these
+
       none : NoneApplies checked
       none = reply-none checked tt free
 

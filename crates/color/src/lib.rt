@@ -1,14 +1,14 @@
 // The colours of the dither: an RGBA record, the two kinds of colour over it, Oklab colours with their distance, and
-// the two crossings between the kinds, through the lent tables. `Rgba8888`, `NormalizedColor`, `ReducedColor`,
-// `CandidateColor`, `eq_rgb` and `oklab_sqdist` are named as in src/color.rs, `reduce_color` and `normalize_color` as in
-// src/mode/color.rs. There `oklab_sqdist` answers for every colour, as `sqdist` does here; `is_transparent` is asked of
-// reduced colours alone. All else that is not there is added.
+// the crossing from reduced to normalised colours, through the lent table (the other one is the crate `reducing`).
+// `Rgba8888`, `NormalizedColor`, `ReducedColor`, `CandidateColor`, `eq_rgb` and `oklab_sqdist` are named as in src/color.rs,
+// `normalize_color` as in src/mode/color.rs. There `oklab_sqdist` answers for every colour, as `sqdist` does here;
+// `is_transparent` is asked of reduced colours alone. All else that is not there is added.
 ghost use mathlib.Core.Path.{_≡_};
 ghost use Prim.Native.Nat.{_+_, _*_, _<_};
 ghost use lib.ListN.{length, getD};
 ghost use lib.Seq.{sets};
 ghost use Rattle.color.specs.Color.{rgba, isTransparent, sameReduced, EqRgbAnswered, rgbaAt, bytesOf};
-ghost use Rattle.color.specs.Tables.{reduceColor, normalizeColor};
+ghost use Rattle.color.specs.Tables.{normalizeColor};
 ghost use Rattle.color.specs.Oklab.{inRange, allInRange, sqdistOf, OklabSqdistAnswered, oklabAt, floatsOf};
 
 // A raw colour, eight bits a channel.
@@ -108,7 +108,7 @@ pub fn put_rgba(bytes: &mut [u8], i: usize, c: Rgba8888)
     bytes[at + 3] = c.a;
 }
 
-// ---- the two crossings
+// ---- through a lent table
 
 // The entry of a lent table for a byte. No public call: the caller sees to the table's length.
 pub fn looked_up(table: &[u8], v: u8) -> u8
@@ -116,23 +116,6 @@ pub fn looked_up(table: &[u8], v: u8) -> u8
     ensures { λ r. ⌜ r ≡ getD (now (table .entry)) v 0 ⌝ }
 {
     table[v as usize]
-}
-
-// Transparent where alpha is below 128; otherwise red, green and blue through the reduction table, and alpha 255.
-// No public call: the caller sees to the table's length.
-pub fn reduce_color(reduction: &[u8], c: NormalizedColor) -> ReducedColor
-    requires { ⌜ length (now reduction) ≡ 256 ⌝ }
-    ensures { λ r. ⌜ r ≡ reduceColor (now (reduction .entry)) c ⌝ }
-{
-    if c.0.a < 128 {
-        return ReducedColor::TRANSPARENT;
-    }
-    ReducedColor(Rgba8888 {
-        r: looked_up(reduction, c.0.r),
-        g: looked_up(reduction, c.0.g),
-        b: looked_up(reduction, c.0.b),
-        a: 255,
-    })
 }
 
 // All four bytes through the scale table. No public call: the caller sees to the table's length.

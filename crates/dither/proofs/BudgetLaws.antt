@@ -7,7 +7,9 @@ use Prim.Native.Nat.{ℕ, _+_, _<_}
 use native.Mathlib.Omega.{arith}
 use lib.Dec.{T, T-not}
 use Rattle.color.specs.Color.{sameReduced, reducedAt}
-use Rattle.picture.specs.Pixels.{isSeen}
+use Rattle.reducing.specs.Reduce.{leastAlpha}
+use Rattle.picture.specs.Pixels.{isSeen, seenFrom}
+use Rattle.picture.proofs.PixelLaws.{seen-from}
 use Rattle.judging.specs.declared.Judged.{Judged}
 use Rattle.judging.specs.declared.Judged.the-variants.{Fits, Over}
 use Rattle.lists.specs.Different.{Many}
@@ -44,11 +46,16 @@ module _ (q : Commission) where
         go true b f = absurd (let z : _≡_ {A = ℕ} 0 1 = cc in omega arith)
         go false b f = b
 
-  -- the drawn bytes are judged as the choices are
-  pub judged-bytes : (reduced : List ℕ) → ((i : ℕ) → i < size q → reducedAt reduced i ≡ chosen q i)
+  -- the drawn bytes are judged as the choices are, and the pixels' own alphas say what is seen
+  pub judged-bytes : (least : ℕ) → least ≡ leastAlpha (q .settings .reducing) → (reduced : List ℕ)
+      → ((i : ℕ) → i < size q → reducedAt reduced i ≡ chosen q i)
       → let s = q .settings in
-      judgedOf (isSeen (reducedOf q)) (reducedAt reduced) (s .width) (s .height) (s .«tile_width») (s .«tile_height») (s .limit) ≡ verdict
-  judged-bytes reduced same = let s = q .settings in judged-same (s .width) (s .height) (s .«tile_width») (s .«tile_height») (λ i h. refl) same (s .limit)
+      judgedOf (seenFrom least (q .pixels)) (reducedAt reduced) (s .width) (s .height) (s .«tile_width») (s .«tile_height») (s .limit) ≡ verdict
+  judged-bytes least l reduced same =
+      let s = q .settings in
+      let seen : seenFrom least (q .pixels) ≡ isSeen (reducedOf q) =
+      ap (λ (n : ℕ). seenFrom n (q .pixels)) l ∙ seen-from (s .reducing) (q .reduction) (q .pixels) (q .opaque) in
+      judged-same (s .width) (s .height) (s .«tile_width») (s .«tile_height») (λ i h t. seen t i) same (s .limit)
 
   -- ---- what it says
   -- of tile t's non-transparent pixels, more different colours are chosen than the limit: so many and one more, no two the same

@@ -12,6 +12,7 @@ use Rattle.lists.specs.Order.{In}
 use Rattle.lists.proofs.GatherLaws.{gather-length, filled-length, filled-front}
 use Rattle.color.specs.declared.ReducedColor.{ReducedColor}
 use Rattle.color.specs.Color.{bytesOf}
+use Rattle.reducing.specs.declared.Reducing.{Reducing}
 use Rattle.picture.specs.Pixels.{reducedBy}
 use Rattle.picture.proofs.PixelLaws.{reduced-solid}
 use Rattle.conversion.specs.Lists.{oklabFloats}
@@ -80,8 +81,8 @@ some-in x [] i = absurd i
 some-in x (y ∷ ys) i = omega arith
 
 -- where the reduction table holds bytes
-pub some-candidate : (zero : ColorZero) (reduction pixels : List ℕ) (n : ℕ) → ((v : ℕ) → getD reduction v 0 < 256) → (i : ℕ) → i < n
-    → isSkipped zero (reducedBy reduction pixels i) ≡ false → 0 < length (candidatesOf (reducedBy reduction pixels) n)
-some-candidate zero reduction pixels n bytes i h s =
-    let reduced = reducedBy reduction pixels in
-    some-in (reduced i) (candidatesOf reduced n) (candidates-is reduced (reduced-solid reduction pixels bytes) n .whole i h (drawn-seen reduced i zero s))
+pub some-candidate : (zero : ColorZero) (by : Reducing) (reduction pixels : List ℕ) (n : ℕ) → ((v : ℕ) → getD reduction v 0 < 256) → (i : ℕ) → i < n
+    → isSkipped zero (reducedBy by reduction pixels i) ≡ false → 0 < length (candidatesOf (reducedBy by reduction pixels) n)
+some-candidate zero by reduction pixels n bytes i h s =
+    let reduced = reducedBy by reduction pixels in
+    some-in (reduced i) (candidatesOf reduced n) (candidates-is reduced (reduced-solid by reduction pixels bytes) n .whole i h (drawn-seen reduced i zero s))

@@ -15,7 +15,7 @@ use Rattle.drawing.proofs.CandidateLaws.{list-fit}
 use Rattle.drawing.proofs.OutputLaws.{bytes-length, bytes-at}
 use Rattle.candidates.specs.Rooms.{candidateAt}
 use Rattle.judging.specs.Tiles.{Judgeable}
-use Rattle.dither.specs.Mode.{Commission, size, candidateList, dithererOf, lentOf, dithering, chosen}
+use Rattle.dither.specs.Mode.{Commission, size, basisOf, candidateList, dithererOf, lentOf, dithering, chosen}
 use Rattle.dither.specs.Steps.{Fitting, Roomed}
 use Rattle.dither.proofs.CandidateLaws.{bytes-long, some-candidate}
 
@@ -37,9 +37,10 @@ module _ (q : Commission) {places : List ℕ} {oklab : List Float} {count : ℕ}
       reduction = f .reduction;
       scale = f .scale;
       pixels = f .pixels;
+      opaque = f .opaque;
       colors = le-of-eq (sym (ap length (r .colors) ∙ bytes-long (candidateList q) ∙ ap (λ (n : ℕ). 4 * n) (sym (r .counted))));
       ranged = rw (r .converted, r .counted) (list-fit (q .scale) (candidateAt (candidateList q)) (length (candidateList q)) scales);
-      some = λ i h s. rw (r .counted) (some-candidate (q .settings .zero) (q .reduction) (q .pixels) (size q) reduces i h s);
+      some = λ i h s. rw (r .counted) (some-candidate (q .settings .zero) (q .settings .reducing) (q .reduction) (basisOf q) (size q) reduces i h s);
     }
 
 module _ (q : Commission) {out₀ : List ℕ} {cells₀ : List ℤ} (f : Fitting q out₀ cells₀) (reduced : List ℕ) (e : reduced ≡ reducedBytes (dithering q)) where
@@ -51,10 +52,9 @@ module _ (q : Commission) {out₀ : List ℕ} {cells₀ : List ℤ} (f : Fitting
   long = ap length e ∙ bytes-length (dithering q)
 
   pub judgeable : let s = q .settings in
-      Judgeable reduced (q .reduction) (q .pixels) (s .width) (s .height) (s .«tile_width») (s .«tile_height») (s .limit)
+      Judgeable reduced (q .pixels) (s .width) (s .height) (s .«tile_width») (s .«tile_height») (s .limit)
   judgeable = record {
     chosen = long;
-    table = f .reduction;
     lent = f .pixels;
     wide = f .wide;
     high = f .high;
@@ -65,5 +65,5 @@ module _ (q : Commission) {out₀ : List ℕ} {cells₀ : List ℤ} (f : Fitting
     few = f .few;
   }
 
-  pub finishable : Finishable (q .reduction) (q .scale) (q .pixels) (size q) reduced
-  finishable = record { reduces = f .reduction; scales = f .scale; source = f .pixels; long = long }
+  pub finishable : Finishable (q .scale) (q .pixels) (size q) reduced
+  finishable = record { scales = f .scale; source = f .pixels; long = long }

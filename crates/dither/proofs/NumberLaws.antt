@@ -13,6 +13,7 @@ use Rattle.replies.proofs.ReplyLaws.{reply-none}
 use Rattle.replies.proofs.AnswerLaws.{answers-first}
 use Rattle.picture.specs.Bounds.{sizeWrong, originWrong, lentWrong, sideWrong}
 use Rattle.picture.proofs.BoundLaws.{sized, lent-so}
+use Rattle.mixing.proofs.Widths.{pairing-shift}
 use Rattle.patterns.specs.Kinds.{isKind, cellsNeeded}
 use Rattle.candidates.specs.Calls.{roomsWrong}
 use Rattle.candidates.proofs.CallLaws.{roomy}
@@ -48,16 +49,16 @@ module _ (q : Commission) (b : Buffers) (e : firstReply (checks (q .settings) (l
       let b1 = or-split (sizeWrong (s .width) (s .height)) _ (none .1 .1 .0) in
       let b2 = or-split (originWrong (s .«origin_x») (s .width)) _ (b1 .1) in
       let bounds = sized (s .width) (s .height) (b1 .0) in
-      let l1 = or-split (lentWrong (l .reduction) (l .scale) (l .pixels) n) _ (none .1 .1 .1 .0) in
+      let l1 = or-split (lentWrong (s .reducing) (l .reduction) (l .scale) (l .pixels) (l .opaque) n) _ (none .1 .1 .1 .0) in
       let l2 = or-split (roomsWrong (l .places) (l .oklab)) _ (l1 .1) in
       let l3 = or-split (not (eqb (l .out) (4 * n))) _ (l2 .1) in
-      let lent = lent-so (l .reduction) (l .scale) (l .pixels) n (l1 .0) in
+      let lent = lent-so (s .reducing) (l .reduction) (l .scale) (l .pixels) (l .opaque) n (l1 .0) in
       let t1 = or-split (sideWrong (s .«tile_width»)) _ (none .1 .1 .1 .1 .0) in
       let t2 = or-split (sideWrong (s .«tile_height»)) _ (t1 .1) in
       let across = side (s .«tile_width») (t1 .0) in
       let down = side (s .«tile_height») (t2 .0) in
       record {
-        shift = not-false _ (mode .1);
+        shift = pairing-shift (s .reducing) (s .shift) (not-false _ (mode .1));
         wide = bounds .0;
         high = bounds .1;
         small = bounds .2;
@@ -66,6 +67,7 @@ module _ (q : Commission) (b : Buffers) (e : firstReply (checks (q .settings) (l
         reduction = lent .0;
         scale = lent .1;
         pixels = lent .2;
+        opaque = lent .3;
         out-long = equals _ _ (l3 .0);
         cells-long = λ d. equals _ _ (l3 .1) ∙ rw d;
         some-wide = across .0;
@@ -81,5 +83,5 @@ module _ (q : Commission) (b : Buffers) (e : firstReply (checks (q .settings) (l
   room =
       let l = lengthsOf q b in
       let none = reply-none (checks (q .settings) l) tt e in
-      let l1 = or-split (lentWrong (l .reduction) (l .scale) (l .pixels) (size q)) _ (none .1 .1 .1 .0) in
+      let l1 = or-split (lentWrong (q .settings .reducing) (l .reduction) (l .scale) (l .pixels) (l .opaque) (size q)) _ (none .1 .1 .1 .0) in
       roomy _ _ (or-split (roomsWrong (l .places) (l .oklab)) _ (l1 .1) .0)

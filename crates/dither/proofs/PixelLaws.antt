@@ -15,7 +15,7 @@ use Rattle.drawing.proofs.CandidateLaws.{list-fit, drawn-candidate}
 use Rattle.drawing.proofs.FinishedLaws.{pixel-here}
 use Rattle.candidates.specs.Rooms.{candidateAt}
 use Rattle.dither.specs.declared.Dithered.{Dithered}
-use Rattle.dither.specs.Mode.{Commission, Buffers, size, reducedOf, candidateList, dithering, chosen, pixelsOf, numberOf, outAfter, DitheredToMode}
+use Rattle.dither.specs.Mode.{Commission, basisOf, Buffers, size, reducedOf, candidateList, dithering, chosen, pixelsOf, numberOf, outAfter, DitheredToMode}
 use Rattle.dither.proofs.CandidateLaws.{some-candidate}
 
 -- ---- what stands at pixel i
@@ -42,5 +42,5 @@ module _ (q : Commission) (i : ℕ) where
   pub chosen-among : ((v : ℕ) → getD (q .reduction) v 0 < 256) → ((v : ℕ) → getD (q .scale) v 0 < 256) → i < size q
       → isSkipped (q .settings .zero) (reducedOf q i) ≡ false → Among (dithering q .candidates) (chosen q i)
   chosen-among reduces scales h s =
-      drawn-candidate (dithering q) (some-candidate (q .settings .zero) (q .reduction) (q .pixels) (size q) reduces i h s)
+      drawn-candidate (dithering q) (some-candidate (q .settings .zero) (q .settings .reducing) (q .reduction) (basisOf q) (size q) reduces i h s)
       (list-fit (q .scale) (candidateAt (candidateList q)) (length (candidateList q)) scales .range) i s

@@ -2,7 +2,7 @@
 -- Written from document 01, "Choosing colours" ("`dither_to_mode` uses source origin plus position", "max is .. the tile limit in
 -- `dither_to_mode`", "In `dither_to_mode` a non-transparent pixel whose reduced rgb equals colour zero's keeps its reduced colour") and "Bounds and
 -- replies"; and from document 02, Ask 9: "15 for kinds 5 and 6 in every call that takes a kind, directly after 1"; Ask 11: "signed 16-bit counts of
--- sixteenths, three a pixel", "3 measures the new length". The candidates, the drawn picture and the judged tiles are defined in `candidates`,
+-- sixteenths, three a pixel", "3 measures the new length"; Ask 5: "Each call names its reduction", "1 for any other pairing", "3 covers the new buffer". The candidates, the drawn picture and the judged tiles are defined in `candidates`,
 -- `drawing` and `judging`.
 use Prim.Native.Nat.{ℕ, _*_}
 use mathlib.Core.Path.{_≡_}
@@ -17,11 +17,13 @@ use Rattle.replies.specs.Replies.{Reply, _if_, after}
 use Rattle.replies.specs.Answers.{Answers}
 use Rattle.color.specs.declared.ReducedColor.{ReducedColor}
 use Rattle.color.specs.Color.{bytesOf}
+use Rattle.reducing.specs.declared.Reducing.{Reducing}
+use Rattle.reducing.specs.Reduce.{isPairing}
 use Rattle.picture.specs.Bounds.{sizeWrong, originWrong, lentWrong, sideWrong}
-use Rattle.picture.specs.Pixels.{reducedBy, isSeen}
+use Rattle.picture.specs.Pixels.{basis, reducedBy, isSeen}
 use Rattle.conversion.specs.Lists.{listOklab}
 use Rattle.patterns.specs.Kinds.{isKind, isRetired, cellsNeeded}
-use Rattle.mixing.specs.Widths.{isShift, widthOf}
+use Rattle.mixing.specs.Widths.{widthOf}
 use Rattle.drawing.specs.declared.Ditherer.{Ditherer}
 use Rattle.drawing.specs.Drawing.{Drawing, drawn}
 use Rattle.drawing.specs.Lent.{Lent, lent, drawingOf, cellsAfter}
@@ -41,9 +43,11 @@ pub record Commission : Type 0 where
   pub reduction : List ℕ
   pub scale : List ℕ
   pub pixels : List ℕ
+  pub opaque : List ℕ
 
-abbrev pub commission : Settings → (reduction scale pixels : List ℕ) → Commission
-commission settings reduction scale pixels = record { settings = settings; reduction = reduction; scale = scale; pixels = pixels }
+abbrev pub commission : Settings → (reduction scale pixels opaque : List ℕ) → Commission
+commission settings reduction scale pixels opaque =
+    record { settings = settings; reduction = reduction; scale = scale; pixels = pixels; opaque = opaque }
 
 -- what the caller lends to be written: places for the candidates, the floats beside them, the pixels and the error cells
 pub record Buffers : Type 0 where
@@ -61,9 +65,12 @@ size q = q .settings .width * q .settings .height
 
 -- ---- the picture
 
--- its pixels' reduced colours
+-- the pixels that reduce, and their reduced colours
+abbrev pub basisOf : Commission → List ℕ
+basisOf q = basis (q .settings .reducing) (q .pixels) (q .opaque)
+
 abbrev pub reducedOf : Commission → ℕ → ReducedColor
-reducedOf q = reducedBy (q .reduction) (q .pixels)
+reducedOf q = reducedBy (q .settings .reducing) (q .reduction) (basisOf q)
 
 -- its candidates
 abbrev pub candidateList : Commission → List ReducedColor
@@ -83,7 +90,7 @@ dithererOf s bracketWidth =
 
 -- what is lent to the drawing, with so many candidates
 abbrev pub lentOf : Commission → List ℕ → List Float → ℕ → Lent
-lentOf q colors oklab count = lent (q .reduction) (q .scale) (q .pixels) colors oklab count
+lentOf q colors oklab count = lent (q .settings .reducing) (q .reduction) (q .scale) (q .pixels) (q .opaque) colors oklab count
 
 -- the picture that is drawn: with the settings' colour zero, and "max is the tile limit"
 abbrev pub dithering : Commission → Drawing
@@ -121,6 +128,7 @@ lengthsOf q b = record {
   reduction = length (q .reduction);
   scale = length (q .scale);
   pixels = length (q .pixels);
+  opaque = length (q .opaque);
   places = length (b .places);
   oklab = length (b .oklab);
   out = length (b .out);
@@ -131,10 +139,10 @@ lengthsOf q b = record {
 unfoldable pub boundsWrong : Settings → Bool
 boundsWrong s = sizeWrong (s .width) (s .height) || (originWrong (s .«origin_x») (s .width) || originWrong (s .«origin_y») (s .height))
 
--- 3: a lent length is wrong, for a kind and a number of pixels
-unfoldable pub lengthsWrong : ℕ → ℕ → Lengths → Bool
-lengthsWrong kind n s =
-    lentWrong (s .reduction) (s .scale) (s .pixels) n
+-- 3: a lent length is wrong, for a reduction, a kind and a number of pixels
+unfoldable pub lengthsWrong : Reducing → ℕ → ℕ → Lengths → Bool
+lengthsWrong by kind n s =
+    lentWrong by (s .reduction) (s .scale) (s .pixels) (s .opaque) n
     || (roomsWrong (s .places) (s .oklab) || (not (eqb (s .out) (4 * n)) || not (eqb (s .cells) (cellsNeeded kind n))))
 
 -- 5: "Tile sides 1..4096, limit 0..256"
@@ -144,10 +152,10 @@ budgetWrong s = sideWrong (s .«tile_width») || (sideWrong (s .«tile_height»)
 -- the numbers that need no look at a pixel, in their order, and all that this call can answer with
 abbrev pub checks : Settings → Lengths → List Reply
 checks s lengths =
-    1 if (not (isKind (s .kind)) || not (isShift (s .shift)))
+    1 if (not (isKind (s .kind)) || not (isPairing (s .reducing) (s .shift)))
     ∷ 15 if isRetired (s .kind)
     ∷ 2 if boundsWrong s
-    ∷ 3 if lengthsWrong (s .kind) (s .width * s .height) lengths
+    ∷ 3 if lengthsWrong (s .reducing) (s .kind) (s .width * s .height) lengths
     ∷ 5 if budgetWrong s
     ∷ []
 

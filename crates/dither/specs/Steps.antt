@@ -7,6 +7,7 @@ use mathlib.Core.List.{List}
 use lib.IntN.{ℤ, pos}
 use lib.ListN.{length, take, replicate}
 use lib.Ieee.{Float}
+use Rattle.picture.specs.Bounds.{opaqueNeeded}
 use Rattle.patterns.specs.Kinds.{isDiffusion}
 use Rattle.mixing.specs.Widths.{isShift}
 use Rattle.drawing.specs.Lent.{cellsAfter}
@@ -25,6 +26,7 @@ pub record Fitting (q : Commission) (out : List ℕ) (cells : List ℤ) : Type 0
   pub reduction : length (q .reduction) ≡ 256
   pub scale : length (q .scale) ≡ 256
   pub pixels : length (q .pixels) ≡ 4 * size q
+  pub opaque : length (q .opaque) ≡ opaqueNeeded (q .settings .reducing) (size q)
   pub out-long : length out ≡ 4 * size q
   pub cells-long : isDiffusion (q .settings .kind) ≡ true → length cells ≡ 3 * size q
   pub some-wide : 1 ≤ q .settings .«tile_width»

@@ -5,6 +5,7 @@ use candidates::Collected;
 use drawing::ColorZero;
 use drawing::Ditherer;
 use judging::Judged;
+use reducing::Reducing;
 ghost use mathlib.Core.Path.{_≡_};
 ghost use Prim.Native.Nat.{_*_, _≤_};
 ghost use lib.ListN.{length, replicate};
@@ -15,11 +16,12 @@ ghost use Rattle.drawing.specs.Turns.{Linear};
 ghost use Rattle.dither.specs.Mode.{commission, buffers, dithering, boundsWrong, lengthsWrong, budgetWrong, checks, DitheredToMode};
 ghost use Rattle.dither.specs.Steps.{Fitting, Roomed, Completes};
 
-// What is asked of a picture: the kind of dithering, the mode's shift, the picture's size and its origin in the source
-// picture, the tiles' sides, how many colours a tile may have, and colour zero.
+// What is asked of a picture: the kind of dithering, the mode's shift and how it reduces, the picture's size and its origin in
+// the source picture, the tiles' sides, how many colours a tile may have, and colour zero.
 pub struct Settings {
     pub kind: u32,
     pub shift: u32,
+    pub reducing: Reducing,
     pub width: u32,
     pub height: u32,
     pub origin_x: u32,
@@ -43,6 +45,7 @@ pub struct Lengths {
     pub reduction: usize,
     pub scale: usize,
     pub pixels: usize,
+    pub opaque: usize,
     pub places: usize,
     pub oklab: usize,
     pub out: usize,
@@ -60,11 +63,11 @@ fn bounds_wrong(s: Settings) -> bool
 }
 
 // Whether a lent length is wrong. No public call: the caller sees to the size.
-fn lengths_wrong(kind: u32, size: usize, s: Lengths) -> bool
+fn lengths_wrong(reducing: Reducing, kind: u32, size: usize, s: Lengths) -> bool
     requires { ⌜ size ≤ 1048576 ⌝ }
-    ensures { λ t. ⌜ t ≡ lengthsWrong kind size s ⌝ }
+    ensures { λ t. ⌜ t ≡ lengthsWrong reducing kind size s ⌝ }
 {
-    picture::lent_wrong(s.reduction, s.scale, s.pixels, size)
+    picture::lent_wrong(reducing, s.reduction, s.scale, s.pixels, s.opaque, size)
         | (candidates::rooms_wrong(s.places, s.oklab)
             | ((s.out != 4 * size) | (s.cells != patterns::cells_needed(kind, size))))
 }
@@ -80,7 +83,8 @@ fn budget_wrong(s: Settings) -> bool
 fn refusal(s: Settings, lengths: Lengths) -> u8
     ensures { λ n. ⌜ n ≡ firstReply (checks s lengths) ⌝ }
 {
-    let mode_wrong = !patterns::is_kind(s.kind) | !mixing::is_shift(s.shift);
+    let reducing = s.reducing;
+    let mode_wrong = !patterns::is_kind(s.kind) | !reducing::is_pairing(reducing, s.shift);
     let retired = patterns::is_retired(s.kind);
     let size_wrong = bounds_wrong(s);
     if mode_wrong {
@@ -93,7 +97,7 @@ fn refusal(s: Settings, lengths: Lengths) -> u8
         return 2;
     }
     let size = s.width as usize * s.height as usize;
-    if lengths_wrong(s.kind, size, lengths) {
+    if lengths_wrong(reducing, s.kind, size, lengths) {
         return 3;
     }
     if budget_wrong(s) {
@@ -112,15 +116,16 @@ fn choose(
     reduction: &[u8],
     scale: &[u8],
     pixels: &[u8],
+    opaque: &[u8],
     places: &[u8],
     oklab: &[f32],
     count: usize,
     out: &mut [u8],
     cells: &mut [i16],
 )
-    requires { ⌜ (let q = commission s (now reduction) (now scale) (now pixels) in
+    requires { ⌜ (let q = commission s (now reduction) (now scale) (now pixels) (now opaque) in
         Linear (now linear) × Fitting q (now out) (now cells) × Roomed q (now places) (now oklab) count) ⌝ }
-    ensures { λ _. ⌜ (let d = dithering (commission s (now (reduction .entry)) (now (scale .entry)) (now (pixels .entry))) in
+    ensures { λ _. ⌜ (let d = dithering (commission s (now (reduction .entry)) (now (scale .entry)) (now (pixels .entry)) (now (opaque .entry))) in
         (now (out .exit) ≡ reducedBytes d) × (now (cells .exit) ≡ cellsAfter d (now (cells .entry)))) ⌝ }
 {
     let ditherer = Ditherer {
@@ -132,15 +137,18 @@ fn choose(
         bracket_width: mixing::width_of(s.shift, s.limit as u64),
     };
     let zero = s.zero;
+    let reducing = s.reducing;
     let colors = &places[..4 * count];
     let floats = &oklab[..3 * count];
     let mut no_indices = [0u8; 0];
     ditherer.draw(
         zero,
         linear,
+        reducing,
         reduction,
         scale,
         pixels,
+        opaque,
         colors,
         floats,
         count,
@@ -169,15 +177,16 @@ fn dither(
     reduction: &[u8],
     scale: &[u8],
     pixels: &[u8],
+    opaque: &[u8],
     places: &[u8],
     oklab: &[f32],
     count: usize,
     out: &mut [u8],
     cells: &mut [i16],
 ) -> Dithered
-    requires { ⌜ (let q = commission s (now reduction) (now scale) (now pixels) in
+    requires { ⌜ (let q = commission s (now reduction) (now scale) (now pixels) (now opaque) in
         Linear (now linear) × Fitting q (now out) (now cells) × Roomed q (now places) (now oklab) count × (count ≤ 65536)) ⌝ }
-    ensures { λ r. ⌜ Completes (commission s (now (reduction .entry)) (now (scale .entry)) (now (pixels .entry))) (now (out .entry)) (now (cells .entry))
+    ensures { λ r. ⌜ Completes (commission s (now (reduction .entry)) (now (scale .entry)) (now (pixels .entry)) (now (opaque .entry))) (now (out .entry)) (now (cells .entry))
         r (now (out .exit)) (now (cells .exit)) ⌝ }
 {
     choose(
@@ -186,15 +195,18 @@ fn dither(
         reduction,
         scale,
         pixels,
+        opaque,
         places,
         oklab,
         count,
         out,
         cells,
     );
+    let reducing = s.reducing;
+    let least = reducing::least_alpha(reducing);
     let verdict = judging::judge(
         out,
-        reduction,
+        least,
         pixels,
         s.width,
         s.height,
@@ -211,24 +223,25 @@ fn dither(
         };
     }
     let size = s.width as usize * s.height as usize;
-    drawing::finish(reduction, scale, pixels, size, out);
+    drawing::finish(least, scale, pixels, size, out);
     Dithered::Count(counted)
 }
 
 // Dithers a picture to a mode's colours, and judges its tiles: the rooms get the picture's candidates, `out` each pixel's
 // choice at full precision, `cells` the diffused error. Where a tile is over its limit, `out` and `cells` are 0; where there
 // are more candidates than places, the places are 0. On any other refusal all buffers are as they were.
-pub fn dither_to_mode(
+pub fn dither_to_mode<'a>(
     settings: Settings,
     reduction: &[u8],
     scale: &[u8],
-    pixels: &[u8],
+    pixels: &'a [u8],
+    opaque: &'a [u8],
     places: &mut [u8],
     oklab: &mut [f32],
     out: &mut [u8],
     cells: &mut [i16],
 ) -> Dithered
-    ensures { λ r. ⌜ DitheredToMode (commission settings (now (reduction .entry)) (now (scale .entry)) (now (pixels .entry)))
+    ensures { λ r. ⌜ DitheredToMode (commission settings (now (reduction .entry)) (now (scale .entry)) (now (pixels .entry)) (now (opaque .entry)))
         (buffers (now (places .entry)) (now (oklab .entry)) (now (out .entry)) (now (cells .entry)))
         r (buffers (now (places .exit)) (now (oklab .exit)) (now (out .exit)) (now (cells .exit))) ⌝ }
 {
@@ -236,6 +249,7 @@ pub fn dither_to_mode(
         reduction: reduction.len(),
         scale: scale.len(),
         pixels: pixels.len(),
+        opaque: opaque.len(),
         places: places.len(),
         oklab: oklab.len(),
         out: out.len(),
@@ -247,11 +261,14 @@ pub fn dither_to_mode(
     }
     let size = settings.width as usize * settings.height as usize;
     let linear = conversion::linear::linear_table();
+    let reducing = settings.reducing;
+    let basis = picture::basis(reducing, pixels, opaque);
     let Collected::Count(count) = candidates::collect_candidates(
         &linear,
+        reducing,
         reduction,
         scale,
-        pixels,
+        basis,
         size,
         places,
         oklab,
@@ -264,6 +281,7 @@ pub fn dither_to_mode(
         reduction,
         scale,
         pixels,
+        opaque,
         places,
         oklab,
         count,

@@ -1,6 +1,7 @@
 -- The pass that puts each pixel's full precision form in the place of its reduced choice: the pixel whose turn it is still has its choice (`finish-at`),
 -- one pixel more (`finish-next`), and all of them (`finish-done`). Assumes nothing.
 use mathlib.Core.Path.{_≡_, refl, sym, _∙_, ap}
+use mathlib.Core.Bool.{Bool}
 use mathlib.Core.List.{List}
 use Prim.Native.Nat.{ℕ, _+_, _*_, _≤_, _<_}
 use native.Mathlib.Omega.{arith}
@@ -14,10 +15,10 @@ use Rattle.color.specs.Color.{rgbaAt, reducedAt, bytesOf}
 use Rattle.color.proofs.PieceLaws.{rgba-rest}
 use Rattle.drawing.specs.Finished.{finishedAt, finishedBytes}
 
-module _ (normalize : ReducedColor → NormalizedColor) (reduced : ℕ → ReducedColor) (chosen : List ℕ) where
+module _ (normalize : ReducedColor → NormalizedColor) (seen : ℕ → Bool) (chosen : List ℕ) where
   -- what becomes of pixel j, whose choice is lent, and its bytes
   abbrev pub endOf : ℕ → NormalizedColor
-  endOf j = finishedAt normalize reduced (reducedAt chosen) j
+  endOf j = finishedAt normalize seen (reducedAt chosen) j
 
   abbrev pub piece : ℕ → List ℕ
   piece j = bytesOf (endOf j .0)
@@ -31,7 +32,7 @@ module _ (normalize : ReducedColor → NormalizedColor) (reduced : ℕ → Reduc
           → Filling 4 piece chosen out′ (i + 1)
       finish-next c h e s = fill-store f (λ j. refl) (omega arith) (s ∙ ap (λ (x : NormalizedColor). sets out (4 * i) (bytesOf (x .0))) e)
 
-      pub finish-done : n ≤ i → out ≡ finishedBytes normalize reduced (reducedAt chosen) n
+      pub finish-done : n ≤ i → out ≡ finishedBytes normalize seen (reducedAt chosen) n
       unfolding finishedBytes
       finish-done h =
           let e : i ≡ n = omega (arith, f .within) in

@@ -1,8 +1,9 @@
--- What the code's choices are, from what the functions that it calls answer: the nearest, what is picked of a bracket, a diffused pixel, a plain one; and
--- what is lent for a whole picture is what a pixel's choice needs. Stated over plain parameters. Assumes nothing.
+-- What the code's choices are, from what the functions that it calls answer: the nearest, what is picked of a bracket, a diffused pixel, a plain one;
+-- what is lent for a whole picture is what a pixel's choice needs; and what a skipped pixel keeps. Stated over plain parameters. Assumes nothing.
 use mathlib.Core.Path.{_≡_, sym, ap, _∙_, subst}
 use mathlib.Core.Bool.{Bool, true, false}
-use lib.ListN.{replicate}
+use borrow.Author.Tests.{not-true, not-false}
+use lib.ListN.{length, replicate}
 use mathlib.Core.List.{List}
 use Prim.Native.Nat.{ℕ, _+_, _*_, _/_, _%_, _≤_, _<_}
 use native.Mathlib.Nat.{div-add-mod'}
@@ -13,11 +14,14 @@ use lib.Ieee.{Float}
 use Rattle.color.specs.declared.Rgba8888.{Rgba8888}
 use Rattle.color.specs.declared.NormalizedColor.{NormalizedColor}
 use Rattle.color.specs.declared.ReducedColor.{ReducedColor}
-use Rattle.color.specs.Color.{rgbaAt}
+use Rattle.color.specs.Color.{rgbaAt, isTransparent, transparentReduced}
 use Rattle.color.specs.Tables.{normalizeColor}
 use Rattle.color.specs.Oklab.{allInRange, oklabAt}
 use Rattle.conversion.specs.Oklab.{toOklab}
-use Rattle.picture.specs.Pixels.{sourceAt}
+use Rattle.reducing.specs.Reduce.{leastAlpha}
+use Rattle.picture.specs.Pixels.{sourceAt, basis, isSeen, seenFrom}
+use Rattle.picture.proofs.BoundLaws.{basis-long}
+use Rattle.picture.proofs.PixelLaws.{seen-from, unseen-kept}
 use Rattle.patterns.specs.Kinds.{isOrdered, isDiffusion, kernelOf}
 use Rattle.patterns.specs.Thresholds.{thresholdAt}
 use Rattle.shortlist.specs.Candidates.{Candidates, scaled}
@@ -33,14 +37,16 @@ use Rattle.diffusion.specs.Biased.{biasedColor}
 use Rattle.diffusion.specs.Scatter.{sends}
 use Rattle.diffusion.specs.Sends.{residualsOf}
 use Rattle.drawing.specs.declared.ColorZero.{ColorZero}
+use Rattle.drawing.specs.declared.ColorZero.the-variants.{Absent, Is}
+use Rattle.drawing.specs.declared.Kept.{Kept}
 use Rattle.drawing.specs.declared.Ditherer.{Ditherer}
 use Rattle.drawing.specs.Drawing.{nearestColor, orderedColor, colorAt}
-use Rattle.drawing.specs.Lent.{isSkipped, Lent, reducedLent, candidatesLent, drawingOf, Ready}
+use Rattle.drawing.specs.Lent.{isZero, isSkipped, Lent, reducedLent, candidatesLent, drawingOf, Ready}
 use Rattle.remembered.specs.Table.{memorySize, nearestAlone, nearestBoth}
 use Rattle.remembered.specs.Shorts.{shortlistAt}
 use Rattle.remembered.proofs.TableLaws.{table-none}
 use Rattle.remembered.proofs.ShortLaws.{rows-none}
-use Rattle.drawing.specs.Turns.{Choosable, Inside, Diffused, RemembersBy, Remembers}
+use Rattle.drawing.specs.Turns.{Choosable, KeepsZero, Inside, Diffused, RemembersBy, Remembers}
 use Rattle.drawing.specs.Positions.{TakesAt}
 use Rattle.drawing.proofs.DrawnLaws.{drawn-plain}
 use Rattle.drawing.proofs.PositionLaws.{takes-dithered}
@@ -114,9 +120,39 @@ module _ {t : Ditherer} {zero : ColorZero} {l : Lent} (ready : Ready t zero l) (
   pub choosable : isSkipped zero (reducedLent l i) ≡ false → Choosable (l .colors) (l .scale) (l .oklab) (l .count)
   choosable s = record { some = ready .some i inside s; room = ready .colors; whole = ready .scale; ranged = ready .ranged }
 
+  -- what is asked of the lengths
+  pub lent-inside : (length (l .reduction) ≡ 256) × (4 * i + 3 < length (l .pixels)) × (4 * i + 3 < length (basis (l .reducing) (l .pixels) (l .opaque)))
+  lent-inside =
+      let long = basis-long (l .reducing) (l .pixels) (l .opaque) (t .width * t .height) (ready .pixels) (ready .opaque) in
+      (ready .reduction, omega (arith, ready .pixels), omega (arith, long))
+
   pub placed : Inside t i
   placed = record { inside = inside; wide = ready .wide; high = ready .high; across = ready .across; down = ready .down }
 
--- whether a pixel is skipped, as the code asks
-pub skipped-as : (zero : ColorZero) (own c : ReducedColor) (t u : Bool) → c ≡ own → t ≡ isSkipped zero c → t ≡ u → isSkipped zero own ≡ u
-skipped-as zero own c t u read asked told = ap (isSkipped zero) (sym read) ∙ sym asked ∙ told
+-- ---- what a skipped pixel keeps
+module _ (l : Lent) (i : ℕ) where
+  -- whether a pixel is seen, as the code asks; where it is not, its reduced colour is TRANSPARENT
+  pub seen-as : {least : ℕ} {r t : Bool} → least ≡ leastAlpha (l .reducing) → r ≡ seenFrom least (l .pixels) i → r ≡ t → isSeen (reducedLent l) i ≡ t
+  seen-as is asked told =
+      (λ q. sym (seen-from (l .reducing) (l .reduction) (l .pixels) (l .opaque)) q i) ∙ ap (λ (n : ℕ). seenFrom n (l .pixels) i) (sym is) ∙ sym asked ∙ told
+
+  pub unseen-own : isSeen (reducedLent l) i ≡ false → transparentReduced ≡ reducedLent l i
+  unseen-own e =
+      sym (unseen-kept (l .reducing) (l .reduction) (l .pixels) (l .opaque) i ((λ q. seen-from (l .reducing) (l .reduction) (l .pixels) (l .opaque) q i) ∙ e))
+
+-- a pixel that is not seen is skipped, and of one that is colour zero says whether it is
+pub unseen-skipped : (zero : ColorZero) (reduced : ℕ → ReducedColor) (i : ℕ) → isSeen reduced i ≡ false → isSkipped zero (reduced i) ≡ true
+unfolding isSkipped isSeen
+unseen-skipped zero reduced i e = let t : isTransparent (reduced i .0) ≡ true = not-false _ e in rw t
+
+pub seen-skipped : (zero : ColorZero) (reduced : ℕ → ReducedColor) (i : ℕ) {u : Bool} → isSeen reduced i ≡ true → isZero zero (reduced i) ≡ u
+    → isSkipped zero (reduced i) ≡ u
+unfolding isSkipped isSeen
+seen-skipped zero reduced i e z = let t : isTransparent (reduced i .0) ≡ false = not-true _ e in rw t z
+
+-- what is kept where colour zero is z; and that there is none
+pub kept-case : {zero : ColorZero} {z : ReducedColor} (c : ReducedColor) {r : Kept} (y : Kept) → zero ≡ Is z → KeepsZero (Is z) c r → r ≡ y → KeepsZero zero c y
+kept-case {zero} {z} c y e k f = subst (λ (u : ColorZero). KeepsZero u c y) (sym e) (subst (KeepsZero (Is z) c) f k)
+
+pub no-zero : {zero : ColorZero} (c : ReducedColor) → zero ≡ Absent → isZero zero c ≡ false
+no-zero c e = ap (λ (u : ColorZero). isZero u c) e

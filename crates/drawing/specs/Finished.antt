@@ -17,23 +17,22 @@ use Rattle.drawing.specs.Drawing.{Drawing, drawn}
 unfoldable pub finished : (ReducedColor → NormalizedColor) → Bool → ReducedColor → NormalizedColor
 finished normalize seen c = cond seen (normalize c) transparentNormalized
 
--- what becomes of pixel i, where the pixels reduce to `reduced` and chose `chosen`; and the bytes of n pixels, four each
-abbrev pub finishedAt : (ReducedColor → NormalizedColor) → (reduced chosen : ℕ → ReducedColor) → ℕ → NormalizedColor
-finishedAt normalize reduced chosen i = finished normalize (isSeen reduced i) (chosen i)
+-- what becomes of pixel i, where the pixels in `seen` are not transparent and all chose `chosen`; and the bytes of n pixels, four each
+abbrev pub finishedAt : (ReducedColor → NormalizedColor) → (seen : ℕ → Bool) → (chosen : ℕ → ReducedColor) → ℕ → NormalizedColor
+finishedAt normalize seen chosen i = finished normalize (seen i) (chosen i)
 
-unfoldable pub finishedBytes : (ReducedColor → NormalizedColor) → (reduced chosen : ℕ → ReducedColor) → ℕ → List ℕ
-finishedBytes normalize reduced chosen n = gather n (λ i. bytesOf (finishedAt normalize reduced chosen i .0))
+unfoldable pub finishedBytes : (ReducedColor → NormalizedColor) → (seen : ℕ → Bool) → (chosen : ℕ → ReducedColor) → ℕ → List ℕ
+finishedBytes normalize seen chosen n = gather n (λ i. bytesOf (finishedAt normalize seen chosen i .0))
 
 -- the same of a drawn picture
 abbrev pub finishedPixel : Drawing → ℕ → NormalizedColor
-finishedPixel d i = finishedAt (d .normalize) (d .reduced) (drawn d) i
+finishedPixel d i = finishedAt (d .normalize) (isSeen (d .reduced)) (drawn d) i
 
 abbrev pub finishedPicture : Drawing → List ℕ
-finishedPicture d = finishedBytes (d .normalize) (d .reduced) (drawn d) (d .width * d .height)
+finishedPicture d = finishedBytes (d .normalize) (isSeen (d .reduced)) (drawn d) (d .width * d .height)
 
 -- what the code needs to finish n pixels, whose reduced choices are lent
-pub record Finishable (reduction scale pixels : List ℕ) (n : ℕ) (chosen : List ℕ) : Type 0 where
-  pub reduces : length reduction ≡ 256
+pub record Finishable (scale pixels : List ℕ) (n : ℕ) (chosen : List ℕ) : Type 0 where
   pub scales : length scale ≡ 256
   pub source : length pixels ≡ 4 * n
   pub long : length chosen ≡ 4 * n

@@ -1,5 +1,6 @@
 -- The pictures that the code draws: what the lent bytes, floats and settings say, and what the lent buffers hold afterwards. Definitions only.
--- Written from document 01, "Which document decides", "Choosing colours" and "Bounds and replies".
+-- Written from document 01, "Which document decides", "Choosing colours" and "Bounds and replies"; and from document 02, Ask 5: "the colour to be dithered is
+-- still the original pixel".
 use Prim.Native.Nat.{ℕ, _+_, _*_, _≤_, _<_}
 use mathlib.Core.Path.{_≡_}
 use mathlib.Core.Bool.{Bool, false, cond, _||_}
@@ -11,7 +12,9 @@ use Rattle.lists.specs.Gather.{gather}
 use Rattle.color.specs.declared.ReducedColor.{ReducedColor}
 use Rattle.color.specs.Color.{isTransparent, sameRgb, bytesOf}
 use Rattle.color.specs.Tables.{normalizeColor}
-use Rattle.picture.specs.Pixels.{sourceAt, reducedBy}
+use Rattle.reducing.specs.declared.Reducing.{Reducing}
+use Rattle.picture.specs.Bounds.{opaqueNeeded}
+use Rattle.picture.specs.Pixels.{sourceAt, basis, reducedBy}
 use Rattle.patterns.specs.Kinds.{isDiffusion, kernelOf}
 use Rattle.shortlist.specs.Candidates.{Candidates, scaled, RangedList}
 use Rattle.diffusion.specs.Scatter.{cellBuffer}
@@ -29,21 +32,32 @@ isZero (Is z) c = sameRgb c z
 unfoldable pub isSkipped : ColorZero → ReducedColor → Bool
 isSkipped zero c = isTransparent (c .0) || isZero zero c
 
--- what is lent to be read: the two tables, the pixels, and the candidates with their Oklab colours
+-- what is lent to be read: how pixels reduce, the two tables, the pixels and the opaque ones beside them, and the candidates with their Oklab colours
 pub record Lent : Type 0 where
+  pub reducing : Reducing
   pub reduction : List ℕ
   pub scale : List ℕ
   pub pixels : List ℕ
+  pub opaque : List ℕ
   pub colors : List ℕ
   pub oklab : List Float
   pub count : ℕ
 
-abbrev pub lent : List ℕ → List ℕ → List ℕ → List ℕ → List Float → ℕ → Lent
-lent reduction scale pixels colors oklab count = record { reduction = reduction; scale = scale; pixels = pixels; colors = colors; oklab = oklab; count = count }
+abbrev pub lent : Reducing → (reduction scale pixels opaque colors : List ℕ) → List Float → ℕ → Lent
+lent reducing reduction scale pixels opaque colors oklab count = record {
+  reducing = reducing;
+  reduction = reduction;
+  scale = scale;
+  pixels = pixels;
+  opaque = opaque;
+  colors = colors;
+  oklab = oklab;
+  count = count;
+}
 
 -- the pixels' reduced colours, and the candidates
 abbrev pub reducedLent : Lent → ℕ → ReducedColor
-reducedLent l = reducedBy (l .reduction) (l .pixels)
+reducedLent l = reducedBy (l .reducing) (l .reduction) (basis (l .reducing) (l .pixels) (l .opaque))
 
 abbrev pub candidatesLent : Lent → Candidates
 candidatesLent l = scaled (l .colors) (l .scale) (l .oklab) (l .count)
@@ -86,6 +100,7 @@ pub record Ready (t : Ditherer) (zero : ColorZero) (l : Lent) : Type 0 where
   pub reduction : length (l .reduction) ≡ 256
   pub scale : length (l .scale) ≡ 256
   pub pixels : length (l .pixels) ≡ 4 * (t .width * t .height)
+  pub opaque : length (l .opaque) ≡ opaqueNeeded (l .reducing) (t .width * t .height)
   pub colors : 4 * l .count ≤ length (l .colors)
   pub ranged : RangedList (l .oklab) (l .count)
   pub some : (i : ℕ) → i < t .width * t .height → isSkipped zero (reducedLent l i) ≡ false → 0 < l .count

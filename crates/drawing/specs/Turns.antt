@@ -19,12 +19,22 @@ use Rattle.remembered.specs.Shorts.{TableAndRows}
 use Rattle.diffusion.specs.Biased.{biasedColor}
 use Rattle.diffusion.specs.Scatter.{sends, scatter}
 use Rattle.diffusion.specs.Sends.{residualsOf}
+use Rattle.color.specs.declared.ReducedColor.{ReducedColor}
+use Rattle.drawing.specs.declared.ColorZero.{ColorZero}
+use Rattle.drawing.specs.declared.Kept.{Kept}
+use Rattle.drawing.specs.declared.Kept.the-variants.{Color, None}
+use Rattle.drawing.specs.Lent.{isZero}
 use Rattle.drawing.specs.declared.Ditherer.{Ditherer}
 use Rattle.drawing.specs.Drawing.{Drawing, nearestColor, pictureOf, drawn}
 
 -- the table of linear values is lent
 pub record Linear (t : List ℕ) : Type 0 where
   pub is : t ≡ values
+
+-- what is kept by colour zero of a pixel with this reduced colour: the colour, where it has that one's rgb, and else none
+abbrev pub KeepsZero : ColorZero → ReducedColor → Kept → Type 0
+KeepsZero zero c (Color own) = (isZero zero c ≡ true) × (own ≡ c)
+KeepsZero zero c None = isZero zero c ≡ false
 
 -- there are candidates to choose from, in rooms that hold them
 pub record Choosable (colors scale : List ℕ) (oklab : List Float) (count : ℕ) : Type 0 where

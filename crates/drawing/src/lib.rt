@@ -5,6 +5,7 @@ use color::NormalizedColor;
 use color::ReducedColor;
 use lists::zero_i16s;
 use lookup::Choice;
+use reducing::Reducing;
 use remembered::MEMORY;
 ghost use mathlib.Core.Path.{_≡_};
 ghost use mathlib.Core.Bool.{true, false};
@@ -15,15 +16,17 @@ ghost use Rattle.diffusion.specs.Sends.{Room};
 ghost use Rattle.color.specs.Color.{reducedAt};
 ghost use Rattle.color.specs.Tables.{normalizeColor};
 ghost use Rattle.color.specs.Oklab.{oklabAt};
-ghost use Rattle.picture.specs.Pixels.{reducedBy};
+ghost use Rattle.reducing.specs.Reduce.{leastAlpha};
+ghost use Rattle.picture.specs.Pixels.{basis, reducedBy, seenFrom};
 ghost use Rattle.shortlist.specs.Candidates.{scaled};
 ghost use Rattle.lookup.specs.Positions.{Takes};
 ghost use Rattle.remembered.specs.Table.{nearestAlone, TableOf};
 ghost use Rattle.remembered.specs.Shorts.{TableAndRows};
 ghost use Rattle.drawing.specs.Drawing.{nearestColor, orderedColor, colorAt};
-ghost use Rattle.drawing.specs.Lent.{isZero, isSkipped, lent, candidatesLent, drawingOf, reducedBytes, cellsAfter, Ready};
+ghost use Rattle.drawing.specs.Lent.{lent, candidatesLent, drawingOf, reducedBytes, cellsAfter, Ready};
+ghost use Rattle.drawing.specs.declared.ColorZero.the-variants.{Is};
 ghost use Rattle.drawing.specs.Positions.{TakesAt, PositionsAfter};
-ghost use Rattle.drawing.specs.Turns.{Linear, Choosable, Inside, Diffused, cellsBefore, Remembers};
+ghost use Rattle.drawing.specs.Turns.{Linear, Choosable, KeepsZero, Inside, Diffused, cellsBefore, Remembers};
 ghost use Rattle.drawing.specs.Finished.{finished, finishedBytes, Finishable};
 
 // A picture's colour zero: absent, or one reduced colour.
@@ -42,21 +45,30 @@ pub struct Ditherer {
     pub bracket_width: u64,
 }
 
-// Whether a colour has colour zero's rgb.
-fn is_zero(zero: ColorZero, c: ReducedColor) -> bool
-    ensures { λ t. ⌜ t ≡ isZero zero c ⌝ }
-{
-    match zero {
-        ColorZero::Absent => false,
-        ColorZero::Is(z) => color::eq_rgb(c, z),
-    }
+// What a pixel keeps that has colour zero's rgb: its reduced colour; and that another keeps none.
+enum Kept {
+    Color(ReducedColor),
+    None,
 }
 
-// Whether a pixel of this reduced colour is skipped: it is transparent, or has colour zero's rgb.
-fn is_skipped(zero: ColorZero, c: ReducedColor) -> bool
-    ensures { λ t. ⌜ t ≡ isSkipped zero c ⌝ }
+// What pixel i keeps by colour zero. Where there is none, no pixel is reduced for its choice. No public call: the caller sees to
+// the lengths.
+fn kept_zero(
+    z: ReducedColor,
+    reducing: Reducing,
+    reduction: &[u8],
+    pixels: &[u8],
+    opaque: &[u8],
+    i: usize,
+) -> Kept
+    requires { ⌜ (length (now reduction) ≡ 256) × (4 * i + 3 < length (basis reducing (now pixels) (now opaque))) ⌝ }
+    ensures { λ r. ⌜ KeepsZero (Is z) (reducedBy reducing (now (reduction .entry)) (basis reducing (now (pixels .entry)) (now (opaque .entry))) i) r ⌝ }
 {
-    c.is_transparent() | is_zero(zero, c)
+    let own = picture::reduced_in(reducing, reduction, pixels, opaque, i);
+    if color::eq_rgb(own, z) {
+        return Kept::Color(own);
+    }
+    Kept::None
 }
 
 // ---- one colour
@@ -242,24 +254,32 @@ impl Ditherer {
         self,
         zero: ColorZero,
         linear: &[u32; 256],
+        least: u8,
+        reducing: Reducing,
         reduction: &[u8],
         scale: &[u8],
         pixels: &[u8],
+        opaque: &[u8],
         colors: &[u8],
         oklab: &[f32],
         count: usize,
         i: usize,
         memory: &mut [u64; MEMORY],
     ) -> Choice
-        requires { ⌜ (let l = lent (now reduction) (now scale) (now pixels) (now colors) (now oklab) count in
-            Linear (now linear) × Ready self zero l × (isDiffusion (self .kind) ≡ false) × (i < self .width * self .height)
+        requires { ⌜ (let l = lent reducing (now reduction) (now scale) (now pixels) (now opaque) (now colors) (now oklab) count in
+            Linear (now linear) × Ready self zero l × (least ≡ leastAlpha reducing) × (isDiffusion (self .kind) ≡ false) × (i < self .width * self .height)
             × Remembers self (candidatesLent l) (now memory)) ⌝ }
-        ensures { λ c. ⌜ (let l = lent (now (reduction .entry)) (now (scale .entry)) (now (pixels .entry)) (now (colors .entry)) (now (oklab .entry)) count in
+        ensures { λ c. ⌜ (let l = lent reducing (now (reduction .entry)) (now (scale .entry)) (now (pixels .entry)) (now (opaque .entry)) (now (colors .entry)) (now (oklab .entry)) count in
             TakesAt (drawingOf self zero l) i c × Remembers self (candidatesLent l) (now (memory .exit))) ⌝ }
     {
-        let kept = picture::reduced_at(reduction, pixels, i);
-        if is_skipped(zero, kept) {
-            return keeping(kept);
+        let seen = picture::is_seen(least, pixels, i);
+        if !seen {
+            return keeping(ReducedColor::TRANSPARENT);
+        }
+        if let ColorZero::Is(z) = zero {
+            if let Kept::Color(own) = kept_zero(z, reducing, reduction, pixels, opaque, i) {
+                return keeping(own);
+            }
         }
         let color = picture::source_at(pixels, i);
         self.color_at(linear, colors, scale, oklab, count, i, color, memory)
@@ -271,9 +291,12 @@ impl Ditherer {
         self,
         zero: ColorZero,
         linear: &[u32; 256],
+        least: u8,
+        reducing: Reducing,
         reduction: &[u8],
         scale: &[u8],
         pixels: &[u8],
+        opaque: &[u8],
         colors: &[u8],
         oklab: &[f32],
         count: usize,
@@ -281,20 +304,35 @@ impl Ditherer {
         memory: &mut [u64; MEMORY],
         cells: &mut [i16],
     ) -> Choice
-        requires { ⌜ (let l = lent (now reduction) (now scale) (now pixels) (now colors) (now oklab) count in
-            Linear (now linear) × Ready self zero l × (isDiffusion (self .kind) ≡ true) × (i < self .width * self .height)
+        requires { ⌜ (let l = lent reducing (now reduction) (now scale) (now pixels) (now opaque) (now colors) (now oklab) count in
+            Linear (now linear) × Ready self zero l × (least ≡ leastAlpha reducing) × (isDiffusion (self .kind) ≡ true) × (i < self .width * self .height)
             × (now cells ≡ cellsBefore (drawingOf self zero l) i) × TableOf (nearestAlone (oklabAt (now oklab)) count) (now memory)) ⌝ }
         ensures { λ c. ⌜ (let d = drawingOf self zero
-            (lent (now (reduction .entry)) (now (scale .entry)) (now (pixels .entry)) (now (colors .entry)) (now (oklab .entry)) count) in
+            (lent reducing (now (reduction .entry)) (now (scale .entry)) (now (pixels .entry)) (now (opaque .entry)) (now (colors .entry)) (now (oklab .entry)) count) in
             TakesAt d i c × (now (cells .exit) ≡ cellsBefore d (i + 1))
             × TableOf (nearestAlone (oklabAt (now (oklab .entry))) count) (now (memory .exit))) ⌝ }
     {
-        let own = picture::reduced_at(reduction, pixels, i);
-        if is_skipped(zero, own) {
-            return keeping(own);
+        let shown = picture::is_seen(least, pixels, i);
+        if !shown {
+            return keeping(ReducedColor::TRANSPARENT);
         }
-        let color = picture::source_at(pixels, i);
-        self.diffusion_color_at(linear, colors, scale, oklab, count, i, color, memory, cells)
+        if let ColorZero::Is(z) = zero {
+            if let Kept::Color(own) = kept_zero(z, reducing, reduction, pixels, opaque, i) {
+                return keeping(own);
+            }
+        }
+        let source = picture::source_at(pixels, i);
+        self.diffusion_color_at(
+            linear,
+            colors,
+            scale,
+            oklab,
+            count,
+            i,
+            source,
+            memory,
+            cells,
+        )
     }
 
     // ---- the whole picture
@@ -304,9 +342,12 @@ impl Ditherer {
         self,
         zero: ColorZero,
         linear: &[u32; 256],
+        least: u8,
+        reducing: Reducing,
         reduction: &[u8],
         scale: &[u8],
         pixels: &[u8],
+        opaque: &[u8],
         colors: &[u8],
         oklab: &[f32],
         count: usize,
@@ -314,11 +355,11 @@ impl Ditherer {
         indices: &mut [u8],
         out: &mut [u8],
     )
-        requires { ⌜ (let l = lent (now reduction) (now scale) (now pixels) (now colors) (now oklab) count in
-            Linear (now linear) × Ready self zero l × (isDiffusion (self .kind) ≡ false) × (length (now out) ≡ 4 * (self .width * self .height))
+        requires { ⌜ (let l = lent reducing (now reduction) (now scale) (now pixels) (now opaque) (now colors) (now oklab) count in
+            Linear (now linear) × Ready self zero l × (least ≡ leastAlpha reducing) × (isDiffusion (self .kind) ≡ false) × (length (now out) ≡ 4 * (self .width * self .height))
             × Remembers self (candidatesLent l) (now memory)) ⌝ }
         ensures { λ _. ⌜ (let d = drawingOf self zero
-            (lent (now (reduction .entry)) (now (scale .entry)) (now (pixels .entry)) (now (colors .entry)) (now (oklab .entry)) count) in
+            (lent reducing (now (reduction .entry)) (now (scale .entry)) (now (pixels .entry)) (now (opaque .entry)) (now (colors .entry)) (now (oklab .entry)) count) in
             (now (out .exit) ≡ reducedBytes d) × PositionsAfter d (now (indices .entry)) (now (indices .exit))) ⌝ }
     {
         let size = self.width as usize * self.height as usize;
@@ -327,9 +368,12 @@ impl Ditherer {
             let c = self.pixel_color(
                 zero,
                 linear,
+                least,
+                reducing,
                 reduction,
                 scale,
                 pixels,
+                opaque,
                 colors,
                 oklab,
                 count,
@@ -347,9 +391,12 @@ impl Ditherer {
         self,
         zero: ColorZero,
         linear: &[u32; 256],
+        least: u8,
+        reducing: Reducing,
         reduction: &[u8],
         scale: &[u8],
         pixels: &[u8],
+        opaque: &[u8],
         colors: &[u8],
         oklab: &[f32],
         count: usize,
@@ -358,11 +405,11 @@ impl Ditherer {
         out: &mut [u8],
         cells: &mut [i16],
     )
-        requires { ⌜ Linear (now linear) × Ready self zero (lent (now reduction) (now scale) (now pixels) (now colors) (now oklab) count)
-            × (isDiffusion (self .kind) ≡ true) × (length (now out) ≡ 4 * (self .width * self .height))
+        requires { ⌜ Linear (now linear) × Ready self zero (lent reducing (now reduction) (now scale) (now pixels) (now opaque) (now colors) (now oklab) count)
+            × (least ≡ leastAlpha reducing) × (isDiffusion (self .kind) ≡ true) × (length (now out) ≡ 4 * (self .width * self .height))
             × (length (now cells) ≡ 3 * (self .width * self .height)) × TableOf (nearestAlone (oklabAt (now oklab)) count) (now memory) ⌝ }
         ensures { λ _. ⌜ (let d = drawingOf self zero
-            (lent (now (reduction .entry)) (now (scale .entry)) (now (pixels .entry)) (now (colors .entry)) (now (oklab .entry)) count) in
+            (lent reducing (now (reduction .entry)) (now (scale .entry)) (now (pixels .entry)) (now (opaque .entry)) (now (colors .entry)) (now (oklab .entry)) count) in
             (now (out .exit) ≡ reducedBytes d) × (now (cells .exit) ≡ cellsBefore d (self .width * self .height))
             × PositionsAfter d (now (indices .entry)) (now (indices .exit))) ⌝ }
     {
@@ -373,9 +420,12 @@ impl Ditherer {
             let chosen = self.diffused_pixel(
                 zero,
                 linear,
+                least,
+                reducing,
                 reduction,
                 scale,
                 pixels,
+                opaque,
                 colors,
                 oklab,
                 count,
@@ -395,9 +445,11 @@ impl Ditherer {
         self,
         zero: ColorZero,
         linear: &[u32; 256],
+        reducing: Reducing,
         reduction: &[u8],
         scale: &[u8],
         pixels: &[u8],
+        opaque: &[u8],
         colors: &[u8],
         oklab: &[f32],
         count: usize,
@@ -405,22 +457,26 @@ impl Ditherer {
         out: &mut [u8],
         cells: &mut [i16],
     )
-        requires { ⌜ Linear (now linear) × Ready self zero (lent (now reduction) (now scale) (now pixels) (now colors) (now oklab) count)
+        requires { ⌜ Linear (now linear) × Ready self zero (lent reducing (now reduction) (now scale) (now pixels) (now opaque) (now colors) (now oklab) count)
             × (length (now out) ≡ 4 * (self .width * self .height))
             × (isDiffusion (self .kind) ≡ true → length (now cells) ≡ 3 * (self .width * self .height)) ⌝ }
         ensures { λ _. ⌜ (let d = drawingOf self zero
-            (lent (now (reduction .entry)) (now (scale .entry)) (now (pixels .entry)) (now (colors .entry)) (now (oklab .entry)) count) in
+            (lent reducing (now (reduction .entry)) (now (scale .entry)) (now (pixels .entry)) (now (opaque .entry)) (now (colors .entry)) (now (oklab .entry)) count) in
             (now (out .exit) ≡ reducedBytes d) × (now (cells .exit) ≡ cellsAfter d (now (cells .entry)))
             × PositionsAfter d (now (indices .entry)) (now (indices .exit))) ⌝ }
     {
+        let least = reducing::least_alpha(reducing);
         let mut memory = [0u64; MEMORY];
         if patterns::is_diffusion(self.kind) {
             self.draw_diffused(
                 zero,
                 linear,
+                least,
+                reducing,
                 reduction,
                 scale,
                 pixels,
+                opaque,
                 colors,
                 oklab,
                 count,
@@ -433,9 +489,12 @@ impl Ditherer {
             self.draw_each(
                 zero,
                 linear,
+                least,
+                reducing,
                 reduction,
                 scale,
                 pixels,
+                opaque,
                 colors,
                 oklab,
                 count,
@@ -462,15 +521,15 @@ fn finished_color(scale: &[u8], seen: bool, c: ReducedColor) -> NormalizedColor
 
 // Finishes n pixels, whose reduced choices are lent: each choice's full precision form takes its place. No public call: the
 // caller sees to the lengths.
-pub fn finish(reduction: &[u8], scale: &[u8], pixels: &[u8], n: usize, out: &mut [u8])
-    requires { ⌜ Finishable (now reduction) (now scale) (now pixels) n (now out) ⌝ }
-    ensures { λ _. ⌜ (let reduced = reducedBy (now (reduction .entry)) (now (pixels .entry)) in
-        now (out .exit) ≡ finishedBytes (normalizeColor (now (scale .entry))) reduced (reducedAt (now (out .entry))) n) ⌝ }
+pub fn finish(least: u8, scale: &[u8], pixels: &[u8], n: usize, out: &mut [u8])
+    requires { ⌜ Finishable (now scale) (now pixels) n (now out) ⌝ }
+    ensures { λ _. ⌜ (let seen = seenFrom least (now (pixels .entry)) in
+        now (out .exit) ≡ finishedBytes (normalizeColor (now (scale .entry))) seen (reducedAt (now (out .entry))) n) ⌝ }
 {
     let mut i = 0;
     while i < n {
         let chosen = ReducedColor(color::rgba_at(out, i));
-        let seen = picture::is_seen(reduction, pixels, i);
+        let seen = picture::is_seen(least, pixels, i);
         let c = finished_color(scale, seen, chosen);
         color::put_rgba(out, i, c.0);
         i += 1;

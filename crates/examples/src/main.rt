@@ -1,4 +1,4 @@
-// The worked examples of document 01, run: one line each, its name and "same" or "differs".
+// The worked examples of document 01 and one of our own, run: one line each, its name and "same" or "differs".
 mod account;
 mod pictures;
 
@@ -113,4 +113,5 @@ fn main() {
     line(b"E9", pictures::e9());
     line(b"E10", pictures::e10());
     line(b"E11", pictures::e11());
+    line(b"greys", pictures::greys());
 }

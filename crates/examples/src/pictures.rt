@@ -1,12 +1,15 @@
 // The examples that are whole calls: E7 to E9 and E11's palettes by `quantize_pixels`, E10 and E11's tile side by
-// `dither_to_mode`. What a call is to write is lent with other contents.
+// `dither_to_mode`, all by alpha; and our own, greys by `candidate_colors_in`. What a call is to write is lent with other
+// contents.
 use crate::account;
 use crate::account::Account;
 use crate::account::Shares;
+use candidates::CandidateCount;
 use dither::Dithered;
 use dither::Settings;
 use drawing::ColorZero;
 use quantize::Quantization;
+use reducing::Reducing;
 
 // Makes the table that leaves every byte as it is.
 fn identity(table: &mut [u8]) {
@@ -54,6 +57,7 @@ fn pair_is(kind: u32, shares: Shares, alpha: u8, said: Account) -> bool {
     let mut cells = [120i16; 6];
     let reply = quantize::quantize_pixels(
         3,
+        Reducing::ByAlpha,
         kind,
         2,
         1,
@@ -61,6 +65,7 @@ fn pair_is(kind: u32, shares: Shares, alpha: u8, said: Account) -> bool {
         &table,
         &[0u8, 0, 0, 255],
         &pixels,
+        &[],
         &mut indices,
         &mut out,
         &mut cells,
@@ -120,6 +125,7 @@ fn in_tiles(width: u32, height: u32, limit: u32) -> Settings {
     Settings {
         kind: 0,
         shift: 3,
+        reducing: Reducing::ByAlpha,
         width: 6,
         height: 1,
         origin_x: 0,
@@ -143,6 +149,7 @@ fn dithered(settings: Settings, pixels: &[u8]) -> Dithered {
         &table,
         &table,
         pixels,
+        &[],
         &mut places,
         &mut oklab,
         &mut out,
@@ -216,6 +223,7 @@ fn number_for(palette: &[u8]) -> u8 {
     let mut cells = [0i16; 0];
     match quantize::quantize_pixels(
         3,
+        Reducing::ByAlpha,
         0,
         1,
         1,
@@ -223,6 +231,7 @@ fn number_for(palette: &[u8]) -> u8 {
         &table,
         palette,
         &pixel,
+        &[],
         &mut index,
         &mut out,
         &mut cells,
@@ -244,4 +253,33 @@ pub fn e11() -> bool {
     let palettes = (number_for(&[0u8; 1024]) == 0) & (number_for(&[0u8; 1028]) == 4);
     let sides = (number_in(0, 1) == 5) & (number_in(3, 0) == 5);
     palettes & sides
+}
+
+// ---- greys: white, 53, black and 61, by their lumas. No alpha is asked, and of the picture's own pixels nothing.
+
+// Four greys, with the alpha t.
+fn four(a: u8, b: u8, c: u8, d: u8, t: u8) -> [u8; 16] {
+    [a, a, a, t, b, b, b, t, c, c, c, t, d, d, d, t]
+}
+
+pub fn greys() -> bool {
+    let mut table = [0u8; 256];
+    identity(&mut table);
+    let mut places = [7u8; 16];
+    let mut oklab = [7.5f32; 12];
+    match candidates::candidate_colors_in(
+        6,
+        Reducing::Grey,
+        4,
+        1,
+        &table,
+        &table,
+        &[9u8; 16],
+        &four(255, 53, 0, 61, 0),
+        &mut places,
+        &mut oklab,
+    ) {
+        CandidateCount::Count(n) => (n == 4) & check::same(&places, &four(0, 52, 60, 255, 255)),
+        CandidateCount::Refused(_) => false,
+    }
 }

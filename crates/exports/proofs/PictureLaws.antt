@@ -2,14 +2,15 @@
 use mathlib.Core.Path.{_≡_, refl, sym, ap, _∙_}
 use mathlib.Core.List.{List}
 use mathlib.Core.Bool.{Bool, true, false, cond}
-use Prim.Native.Nat.{ℕ, zero, suc}
+use Prim.Native.Nat.{ℕ, zero, suc, _≤_}
 use native.Mathlib.Omega.{arith}
-use borrow.Author.Tests.{ne-eqb, eqb-true}
+use borrow.Author.Tests.{ne-eqb, eqb-true, le-ltb}
 use lib.Dec.{eqb}
 use lib.IntN.{ℤ}
 use lib.Ieee.{Float}
 use lib.ListN.{length}
 use Rattle.replies.specs.Replies.{after}
+use Rattle.reducing.specs.declared.Reducing.{Reducing}
 use Rattle.candidates.specs.declared.CandidateCount.{CandidateCount}
 use Rattle.candidates.specs.declared.CandidateCount.the-variants as counted
 use Rattle.candidates.specs.Calls as colors
@@ -22,7 +23,11 @@ use Rattle.dither.specs.Mode.{Buffers, candidateList, tileOver, leaves, buffers
 use Rattle.dither.proofs.Unique.{left-is}
 use Rattle.quantize.specs.declared.Quantization.{Quantization}
 use Rattle.quantize.specs.Quantize.{Commission, quantizing, indicesOf, pixelsOf, numberOf, Quantized}
-use Rattle.exports.specs.Pictures.{badgeCandidateColorsIn, badgeQuantizePixels, badgeDitherToMode}
+use Rattle.exports.specs.Pictures.{reducingOf, named, badgeCandidateColorsIn, badgeQuantizePixels, badgeDitherToMode}
+
+-- ---- a number that names a reduction
+pub is-named : {A : Type 0} (n : ℕ) (result : Reducing → A) (refused : A) {by : Reducing} → n ≤ 2 → by ≡ reducingOf n → result by ≡ named n result refused
+is-named n result refused h e = ap result e ∙ rw (le-ltb 2 n h)
 
 -- ---- `candidate_colors_in`
 -- an answer handed over, with the buffers, where the pointer held `was`

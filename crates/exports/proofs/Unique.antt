@@ -5,6 +5,7 @@ use lib.IntN.{ℤ}
 use lib.Ieee.{Float}
 use Rattle.replies.specs.Unique.{Unique}
 use Rattle.replies.proofs.UniqueLaws.{equal-only}
+use Rattle.reducing.specs.declared.Reducing.{Reducing}
 use Rattle.candidates.specs.Calls.{Asked}
 use Rattle.quantize.specs.Quantize.{Commission}
 use Rattle.dither.specs.Mode as mode
@@ -43,16 +44,17 @@ pub badge-pick-unique : (dark light : List ℕ) (ratio : Float) (kind column row
     → Unique (λ (x : ℕ × List ℕ). PromisedPick dark light ratio kind column row chosen x)
 badge-pick-unique dark light ratio kind column row chosen = equal-only _
 
-pub badge-candidate-colors-in-unique : (asked : Asked) (count : ℕ) → Unique (λ (x : ℕ × List ℕ × List Float × ℕ). PromisedCandidateColorsIn asked count x)
-badge-candidate-colors-in-unique asked count = equal-only _
+pub badge-candidate-colors-in-unique : (reducing : ℕ) (asked : Reducing → Asked) (count : ℕ)
+    → Unique (λ (x : ℕ × List ℕ × List Float × ℕ). PromisedCandidateColorsIn reducing asked count x)
+badge-candidate-colors-in-unique reducing asked count = equal-only _
 
-pub badge-quantize-pixels-unique : (q : Commission) (indices out : List ℕ) (cells : List ℤ)
-    → Unique (λ (x : ℕ × List ℕ × List ℕ × List ℤ). PromisedQuantizePixels q indices out cells x)
-badge-quantize-pixels-unique q indices out cells = equal-only _
+pub badge-quantize-pixels-unique : (reducing : ℕ) (q : Reducing → Commission) (indices out : List ℕ) (cells : List ℤ)
+    → Unique (λ (x : ℕ × List ℕ × List ℕ × List ℤ). PromisedQuantizePixels reducing q indices out cells x)
+badge-quantize-pixels-unique reducing q indices out cells = equal-only _
 
-pub badge-dither-to-mode-unique : (q : mode.Commission) (was : mode.Buffers) (count tile : ℕ)
-    → Unique (λ (x : ℕ × mode.Buffers × ℕ × ℕ). PromisedDitherToMode q was count tile x)
-badge-dither-to-mode-unique q was count tile = equal-only _
+pub badge-dither-to-mode-unique : (reducing : ℕ) (q : Reducing → mode.Commission) (was : mode.Buffers) (count tile : ℕ)
+    → Unique (λ (x : ℕ × mode.Buffers × ℕ × ℕ). PromisedDitherToMode reducing q was count tile x)
+badge-dither-to-mode-unique reducing q was count tile = equal-only _
 
 pub badge-pam-size-unique : (file : List ℕ) (width height : ℕ) → Unique (λ (x : ℕ × ℕ × ℕ). PromisedPamSize file width height x)
 badge-pam-size-unique file width height = equal-only _

@@ -24,15 +24,15 @@ use pam::Size;
 use pam::Written;
 use patterns::Thresholded;
 use quantize::Quantization;
+use reducing::Reducing;
 ghost use mathlib.Core.Path.{_≡_};
 ghost use lib.ListN.{length};
 ghost use Rattle.color.specs.Color.{reducedAt, bytesOf};
 ghost use Rattle.dither.specs.Mode as mode;
-ghost use Rattle.quantize.specs.Quantize.{commission};
 ghost use Rattle.exports.specs.Answers.{PromisedToOklab, PromisedOklabSqdist, PromisedOrderedThreshold, PromisedBracketWidth, PromisedLerp};
 ghost use Rattle.exports.specs.Files.{PromisedPamSize, PromisedReadPam, PromisedPamLength, PromisedWritePam};
 ghost use Rattle.exports.specs.Lookups.{PromisedNearest, secondPosition, PromisedNearestTwo, PromisedOrderedBracket, PromisedPick};
-ghost use Rattle.exports.specs.Pictures.{lentTo, PromisedCandidateColorsIn, PromisedQuantizePixels, zeroOf, settingsOf, PromisedDitherToMode};
+ghost use Rattle.exports.specs.Pictures.{reducingOf, lentTo, asked, drawnBy, PromisedCandidateColorsIn, PromisedQuantizePixels, zeroOf, settingsOf, PromisedDitherToMode};
 
 // The Oklab colour of a colour.
 #[no_mangle]
@@ -295,30 +295,55 @@ pub extern "C" fn badge_pick(
 
 // ---- pictures
 
+// ---- the picture calls. A number that is no reduction is refused with 1, as a pairing that there is not
+
+// The largest number of a reduction.
+const LAST_REDUCING: u32 = 2;
+
+// The reduction with a number; those above the last name none.
+fn reducing_of(number: u32) -> Reducing
+    ensures { λ r. ⌜ r ≡ reducingOf number ⌝ }
+{
+    if number == 0 {
+        return Reducing::ByAlpha;
+    }
+    if number == 1 {
+        return Reducing::Grey;
+    }
+    Reducing::OpaqueColor
+}
+
 // The candidates of a picture, and how many; 1, 2, 3 and 7.
 #[no_mangle]
-pub extern "C" fn badge_candidate_colors_in(
+pub extern "C" fn badge_candidate_colors_in<'a>(
     shift: u32,
+    reducing: u32,
     width: u32,
     height: u32,
     reduction: &[u8],
     scale: &[u8],
-    pixels: &[u8],
+    pixels: &'a [u8],
+    opaque: &'a [u8],
     places: &mut [u8],
     oklab: &mut [f32],
     count: &mut u32,
 ) -> u32
-    ensures { λ n. ⌜ (let x = lentTo shift width height (now (reduction .entry)) (now (scale .entry)) (now (pixels .entry))
+    ensures { λ n. ⌜ (let x = lentTo shift width height (now (reduction .entry)) (now (scale .entry)) (now (pixels .entry)) (now (opaque .entry))
         (now (places .entry)) (now (oklab .entry)) in
-        PromisedCandidateColorsIn x (now (count .entry)) (n, now (places .exit), now (oklab .exit), now (count .exit))) ⌝ }
+        PromisedCandidateColorsIn reducing x (now (count .entry)) (n, now (places .exit), now (oklab .exit), now (count .exit))) ⌝ }
 {
+    if LAST_REDUCING < reducing {
+        return 1;
+    }
     match candidates::candidate_colors_in(
         shift,
+        reducing_of(reducing),
         width,
         height,
         reduction,
         scale,
         pixels,
+        opaque,
         places,
         oklab,
     ) {
@@ -334,6 +359,7 @@ pub extern "C" fn badge_candidate_colors_in(
 #[no_mangle]
 pub extern "C" fn badge_quantize_pixels(
     shift: u32,
+    reducing: u32,
     kind: u32,
     width: u32,
     height: u32,
@@ -341,16 +367,22 @@ pub extern "C" fn badge_quantize_pixels(
     scale: &[u8],
     palette: &[u8],
     pixels: &[u8],
+    opaque: &[u8],
     indices: &mut [u8],
     out: &mut [u8],
     cells: &mut [i16],
 ) -> u32
-    ensures { λ n. ⌜ (let q = commission shift kind width height (now (reduction .entry)) (now (scale .entry)) (now (palette .entry)) (now (pixels .entry)) in
-        PromisedQuantizePixels q (now (indices .entry)) (now (out .entry)) (now (cells .entry))
+    ensures { λ n. ⌜ (let q = asked shift kind width height (now (reduction .entry)) (now (scale .entry)) (now (palette .entry)) (now (pixels .entry))
+        (now (opaque .entry)) in
+        PromisedQuantizePixels reducing q (now (indices .entry)) (now (out .entry)) (now (cells .entry))
         (n, now (indices .exit), now (out .exit), now (cells .exit))) ⌝ }
 {
+    if LAST_REDUCING < reducing {
+        return 1;
+    }
     match quantize::quantize_pixels(
         shift,
+        reducing_of(reducing),
         kind,
         width,
         height,
@@ -358,6 +390,7 @@ pub extern "C" fn badge_quantize_pixels(
         scale,
         palette,
         pixels,
+        opaque,
         indices,
         out,
         cells,
@@ -379,8 +412,9 @@ fn color_zero(has_zero: u32, r: u8, g: u8, b: u8, a: u8) -> ColorZero
 
 // Dithers a picture to a mode and judges its tiles; 1, 15, 2, 3, 5, 7 and 8. After 8 there are a count and a tile, too.
 #[no_mangle]
-pub extern "C" fn badge_dither_to_mode(
+pub extern "C" fn badge_dither_to_mode<'a>(
     shift: u32,
+    reducing: u32,
     kind: u32,
     width: u32,
     height: u32,
@@ -396,7 +430,8 @@ pub extern "C" fn badge_dither_to_mode(
     zero_a: u8,
     reduction: &[u8],
     scale: &[u8],
-    pixels: &[u8],
+    pixels: &'a [u8],
+    opaque: &'a [u8],
     places: &mut [u8],
     oklab: &mut [f32],
     out: &mut [u8],
@@ -405,15 +440,19 @@ pub extern "C" fn badge_dither_to_mode(
     tile: &mut u32,
 ) -> u32
     ensures { λ n. ⌜ (let zero = zeroOf «has_zero» «zero_r» «zero_g» «zero_b» «zero_a» in
-        let q = mode.commission (settingsOf shift kind width height «origin_x» «origin_y» «tile_width» «tile_height» limit zero)
-        (now (reduction .entry)) (now (scale .entry)) (now (pixels .entry)) in
+        let q = drawnBy (settingsOf shift kind width height «origin_x» «origin_y» «tile_width» «tile_height» limit zero)
+        (now (reduction .entry)) (now (scale .entry)) (now (pixels .entry)) (now (opaque .entry)) in
         let was = mode.buffers (now (places .entry)) (now (oklab .entry)) (now (out .entry)) (now (cells .entry)) in
         let then = mode.buffers (now (places .exit)) (now (oklab .exit)) (now (out .exit)) (now (cells .exit)) in
-        PromisedDitherToMode q was (now (count .entry)) (now (tile .entry)) (n, then, now (count .exit), now (tile .exit))) ⌝ }
+        PromisedDitherToMode reducing q was (now (count .entry)) (now (tile .entry)) (n, then, now (count .exit), now (tile .exit))) ⌝ }
 {
+    if LAST_REDUCING < reducing {
+        return 1;
+    }
     let settings = Settings {
         kind,
         shift,
+        reducing: reducing_of(reducing),
         width,
         height,
         origin_x,
@@ -428,6 +467,7 @@ pub extern "C" fn badge_dither_to_mode(
         reduction,
         scale,
         pixels,
+        opaque,
         places,
         oklab,
         out,

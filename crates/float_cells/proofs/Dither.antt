@@ -16,7 +16,7 @@ use Rattle.floats.specs.Over.{sixteenths}
 use Rattle.floats.specs.Bytes.{zeroF}
 use Rattle.picture.specs.Pixels.{isSeen}
 use Rattle.patterns.specs.Kinds.{isKind, isRetired}
-use Rattle.mixing.specs.Widths.{isShift}
+use Rattle.reducing.specs.Reduce.{isPairing}
 use Rattle.drawing.specs.Drawing.{Drawing, drawn}
 use Rattle.drawing.specs.Lent.{cellsAfter}
 use Rattle.candidates.specs.Rooms.{tooMany}
@@ -71,6 +71,7 @@ module _ {q : Commission} {was then : Buffers} {floats₀ : List Float} {then′
     reduction = length (q .reduction);
     scale = length (q .scale);
     pixels = length (q .pixels);
+    opaque = length (q .opaque);
     places = length (was .places);
     oklab = length (was .oklab);
     out = length (was .out);
@@ -80,7 +81,7 @@ module _ {q : Commission} {was then : Buffers} {floats₀ : List Float} {then′
   -- the rows before 3, and behind it
   front : List Reply
   front =
-      1 if (not (isKind (q .settings .kind)) || not (isShift (q .settings .shift)))
+      1 if (not (isKind (q .settings .kind)) || not (isPairing (q .settings .reducing) (q .settings .shift)))
       ∷ 15 if isRetired (q .settings .kind)
       ∷ 2 if boundsWrong (q .settings)
       ∷ []
@@ -95,12 +96,12 @@ module _ {q : Commission} {was then : Buffers} {floats₀ : List Float} {then′
   unfolding front behind size
   but-3 h k =
       answer-by
-      (row-changed front 3 (lengthsWrong (q .settings .kind) size (lengthsOf q was)) wrong (behind (overBudget q)) (λ e. h (x .answer .number ∙ e))
+      (row-changed front 3 (lengthsWrong (q .settings .reducing) (q .settings .kind) size (lengthsOf q was)) wrong (behind (overBudget q)) (λ e. h (x .answer .number ∙ e))
       (λ e. k (y .answer .number ∙ sym (ap with-floats budget-same) ∙ e))
       ∙ ap with-floats budget-same)
     where
       wrong : Bool
-      wrong = lengthsWrong (q .settings .kind) size (lengthsF q (withFloats was floats₀))
+      wrong = lengthsWrong (q .settings .reducing) (q .settings .kind) size (lengthsF q (withFloats was floats₀))
 
       with-floats : Bool → ℕ
       with-floats over = firstReply (front ++ 3 if wrong ∷ behind over)

@@ -12,7 +12,7 @@ use Rattle.replies.proofs.AnswerLaws.{answered}
 use Rattle.floats.specs.Over.{sixteenths}
 use Rattle.picture.specs.Bounds.{sizeWrong}
 use Rattle.patterns.specs.Kinds.{isKind, isRetired}
-use Rattle.mixing.specs.Widths.{isShift}
+use Rattle.reducing.specs.Reduce.{isPairing}
 use Rattle.drawing.specs.Drawing.{Drawing, drawn}
 use Rattle.drawing.specs.Lent.{cellsAfter}
 use Rattle.quantize.specs.declared.Quantization.{Quantization}
@@ -29,7 +29,7 @@ module _ {q : Commission} {indices₀ out₀ : List ℕ} {cells₀ : List ℤ} {
   -- the rows before 3 and behind it
   front : List Reply
   front =
-      1 if (not (isKind (q .kind)) || not (isShift (q .shift)))
+      1 if (not (isKind (q .kind)) || not (isPairing (q .reducing) (q .shift)))
       ∷ 15 if isRetired (q .kind)
       ∷ 2 if sizeWrong (q .width) (q .height)
       ∷ []
@@ -45,11 +45,12 @@ module _ {q : Commission} {indices₀ out₀ : List ℕ} {cells₀ : List ℤ} {
 
   -- as many cells: one answer
   same-length : length cells₀ ≡ length floats₀ → r ≡ s
-  same-length e = answer-by (λ t. firstReply (checks (q .shift) (q .kind) (q .width) (q .height) (record {
+  same-length e = answer-by (λ t. firstReply (checks (q .shift) (q .reducing) (q .kind) (q .width) (q .height) (record {
     reduction = length (q .reduction);
     scale = length (q .scale);
     palette = length (q .palette);
     pixels = length (q .pixels);
+    opaque = length (q .opaque);
     indices = length indices₀;
     out = length out₀;
     cells = e t;
@@ -60,8 +61,8 @@ module _ {q : Commission} {indices₀ out₀ : List ℕ} {cells₀ : List ℤ} {
   unfolding front behind
   but-3 h k =
       answer-by
-      (row-changed front 3 (lengthsWrong (q .kind) (q .width * q .height) (lengthsOf q indices₀ out₀ cells₀))
-      (lengthsWrong (q .kind) (q .width * q .height) (lengthsOf q indices₀ out₀ floats₀)) behind (λ e. h (x .answer .number ∙ e))
+      (row-changed front 3 (lengthsWrong (q .reducing) (q .kind) (q .width * q .height) (lengthsOf q indices₀ out₀ cells₀))
+      (lengthsWrong (q .reducing) (q .kind) (q .width * q .height) (lengthsOf q indices₀ out₀ floats₀)) behind (λ e. h (x .answer .number ∙ e))
       (λ e. k (y .answer .number ∙ e)))
 
   module _ (pixels : Bytes (q .pixels)) (scale : Bytes (q .scale)) where

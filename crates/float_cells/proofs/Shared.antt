@@ -31,8 +31,8 @@ row-changed (x ∷ front) n a b behind h k = go (row-changed front n a b behind)
 
 -- ---- what becomes of a picture's choices
 module _ (d : Drawing) (same : (i : ℕ) → i < d .width * d .height → drawnF d i ≡ drawn d i) where
-  pub finished-same : finishedBytes (d .normalize) (d .reduced) (drawn d) (d .width * d .height)
-      ≡ finishedBytes (d .normalize) (d .reduced) (drawnF d) (d .width * d .height)
+  pub finished-same : finishedBytes (d .normalize) (isSeen (d .reduced)) (drawn d) (d .width * d .height)
+      ≡ finishedBytes (d .normalize) (isSeen (d .reduced)) (drawnF d) (d .width * d .height)
   unfolding finishedBytes
   finished-same =
       gather-same (d .width * d .height) (λ i h. ap (λ (c : ReducedColor). bytesOf (finished (d .normalize) (isSeen (d .reduced) i) c .0)) (sym (same i h)))

@@ -38,7 +38,7 @@ pub record QuantizedF (q : quantize.Commission) (indices₀ out₀ : List ℕ) (
       ≡ after (quantize.numberOf r) (indexBytes (q .palette) (entries q) (quantizing q .reduced) (drawnF (quantizing q)) (quantize.size q)) indices₀
   pub picture :
       out
-      ≡ after (quantize.numberOf r) (finishedBytes (quantizing q .normalize) (quantizing q .reduced) (drawnF (quantizing q)) (quantize.size q)) out₀
+      ≡ after (quantize.numberOf r) (finishedBytes (quantizing q .normalize) (isSeen (quantizing q .reduced)) (drawnF (quantizing q)) (quantize.size q)) out₀
   pub cell-buffer : cells ≡ after (quantize.numberOf r) (errorF (quantizing q) cells₀) cells₀
 
 -- a result with sixteenths and one with floats: one answer, one picture; sixteen times the floats are the sixteenths, and the floats are these exactly
@@ -67,6 +67,7 @@ lengthsF q b = record {
   reduction = length (q .reduction);
   scale = length (q .scale);
   pixels = length (q .pixels);
+  opaque = length (q .opaque);
   places = length (b .places);
   oklab = length (b .oklab);
   out = length (b .out);
@@ -94,7 +95,7 @@ pub record DitheredToModeF (q : mode.Commission) (was : BuffersF) (r : Dithered)
   pub candidate-oklab : then .oklab ≡ oklabAfter q (was .oklab) (mode.numberOf r)
   pub picture :
       then .out
-      ≡ leaves (mode.numberOf r) (finishedBytes (dithering q .normalize) (dithering q .reduced) (drawnF (dithering q)) (mode.size q))
+      ≡ leaves (mode.numberOf r) (finishedBytes (dithering q .normalize) (isSeen (dithering q .reduced)) (drawnF (dithering q)) (mode.size q))
       (replicate (length (was .out)) 0) (was .out)
   pub cell-buffer :
       then .cells ≡ leaves (mode.numberOf r) (errorF (dithering q) (was .cells)) (replicate (length (was .cells)) zeroF) (was .cells)

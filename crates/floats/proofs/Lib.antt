@@ -6,6 +6,7 @@ pub mod Within
 pub mod Unique
 pub mod Order
 pub mod Range
+pub mod Monotone
 pub mod Whole
 pub mod Dot
 pub mod Bytes

@@ -59,10 +59,9 @@ module _ (shown : ℕ → Bool) (color : ℕ → ReducedColor) (w h tw th : ℕ)
   JudgedAs limit Fits = (t : ℕ) → t < tileCount w h tw th → T (not (isOver limit t))
   JudgedAs limit (Over t) = (t < tileCount w h tw th) × T (isOver limit t) × ((k : ℕ) → k < t → T (not (isOver limit k)))
 
--- what `judge` asks of its caller: whole buffers, a whole table, and the bounds of sides and limit
-pub record Judgeable (colors reduction pixels : List ℕ) (w h tw th limit : ℕ) : Type 0 where
+-- what `judge` asks of its caller: whole buffers, and the bounds of sides and limit
+pub record Judgeable (colors pixels : List ℕ) (w h tw th limit : ℕ) : Type 0 where
   pub chosen : length colors ≡ 4 * (w * h)
-  pub table : length reduction ≡ 256
   pub lent : length pixels ≡ 4 * (w * h)
   pub wide : w ≤ 4096
   pub high : h ≤ 4096

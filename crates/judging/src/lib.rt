@@ -5,7 +5,7 @@ ghost use Prim.Native.Nat.{_+_, _*_, _≤_, _<_, min};
 ghost use lib.ListN.{length, take};
 ghost use lib.Dec.{eqb};
 ghost use Rattle.color.specs.Color.{reducedAt};
-ghost use Rattle.picture.specs.Pixels.{reducedBy, isSeen};
+ghost use Rattle.picture.specs.Pixels.{seenFrom};
 ghost use Rattle.lists.specs.Different.{has};
 ghost use Rattle.judging.specs.Keys.{colorWithKey, countWith, keysWith, Turned};
 ghost use Rattle.judging.specs.Tiles.{tilesOver, verdictOf, judgedOf, Judgeable};
@@ -55,20 +55,13 @@ fn add_key(keys: &mut [u32], count: u32, key: u32) -> u32
 }
 
 // A pixel's turn: its colour joins those of its tile, unless the pixel is transparent or the colour is there already.
-fn add_pixel(
-    chosen: &[u8],
-    reduction: &[u8],
-    pixels: &[u8],
-    i: usize,
-    keys: &mut [u32],
-    count: u32,
-) -> u32
-    requires { ⌜ (4 * i + 3 < length (now chosen)) × (length (now reduction) ≡ 256) × (4 * i + 3 < length (now pixels)) × (count < length (now keys))
+fn add_pixel(chosen: &[u8], least: u8, pixels: &[u8], i: usize, keys: &mut [u32], count: u32) -> u32
+    requires { ⌜ (4 * i + 3 < length (now chosen)) × (4 * i + 3 < length (now pixels)) × (count < length (now keys))
         × (length (now keys) ≡ 257) ⌝ }
-    ensures { λ n. ⌜ Turned (isSeen (reducedBy (now (reduction .entry)) (now (pixels .entry))) i) (reducedAt (now (chosen .entry)) i)
+    ensures { λ n. ⌜ Turned (seenFrom least (now (pixels .entry)) i) (reducedAt (now (chosen .entry)) i)
         (now (keys .entry)) count (now (keys .exit)) n ⌝ }
 {
-    if picture::is_seen(reduction, pixels, i) {
+    if picture::is_seen(least, pixels, i) {
         return add_key(keys, count, key_at(chosen, i));
     }
     count
@@ -108,7 +101,7 @@ fn verdict(tile: u32, tiles: u32) -> Judged
 // The scan: tile rows, tiles, rows and pixels, left with the tile's number at the first pixel that overfills its tile.
 fn scan(
     chosen: &[u8],
-    reduction: &[u8],
+    least: u8,
     pixels: &[u8],
     width: u32,
     height: u32,
@@ -117,8 +110,8 @@ fn scan(
     limit: u32,
     keys: &mut [u32],
 ) -> Judged
-    requires { ⌜ Judgeable (now chosen) (now reduction) (now pixels) width height «tile_width» «tile_height» limit × (length (now keys) ≡ 257) ⌝ }
-    ensures { λ r. ⌜ r ≡ judgedOf (isSeen (reducedBy (now (reduction .entry)) (now (pixels .entry)))) (reducedAt (now (chosen .entry)))
+    requires { ⌜ Judgeable (now chosen) (now pixels) width height «tile_width» «tile_height» limit × (length (now keys) ≡ 257) ⌝ }
+    ensures { λ r. ⌜ r ≡ judgedOf (seenFrom least (now (pixels .entry))) (reducedAt (now (chosen .entry)))
         width height «tile_width» «tile_height» limit ⌝ }
 {
     let across = tiles_over(width, tile_width);
@@ -138,14 +131,7 @@ fn scan(
             while y < y_end {
                 let mut x = tile_x;
                 while x < x_end {
-                    count = add_pixel(
-                        chosen,
-                        reduction,
-                        pixels,
-                        (y * width + x) as usize,
-                        keys,
-                        count,
-                    );
+                    count = add_pixel(chosen, least, pixels, (y * width + x) as usize, keys, count);
                     if limit < count {
                         break 'tiles;
                     }
@@ -161,11 +147,11 @@ fn scan(
     verdict(tile, across * down)
 }
 
-// Judges the chosen reduced colours of a picture, four bytes a pixel, against the tile limit; `pixels` is the source, which by
-// the reduction table says what is transparent. No public call: the caller sees to the lengths and bounds.
+// Judges the chosen reduced colours of a picture, four bytes a pixel, against the tile limit; `pixels` is the source, whose
+// alphas say what is transparent: those below the least. No public call: the caller sees to the lengths and bounds.
 pub fn judge(
     chosen: &[u8],
-    reduction: &[u8],
+    least: u8,
     pixels: &[u8],
     width: u32,
     height: u32,
@@ -173,15 +159,15 @@ pub fn judge(
     tile_height: u32,
     limit: u32,
 ) -> Judged
-    requires { ⌜ Judgeable (now chosen) (now reduction) (now pixels) width height «tile_width» «tile_height» limit ⌝ }
-    ensures { λ r. ⌜ r ≡ judgedOf (isSeen (reducedBy (now (reduction .entry)) (now (pixels .entry)))) (reducedAt (now (chosen .entry)))
+    requires { ⌜ Judgeable (now chosen) (now pixels) width height «tile_width» «tile_height» limit ⌝ }
+    ensures { λ r. ⌜ r ≡ judgedOf (seenFrom least (now (pixels .entry))) (reducedAt (now (chosen .entry)))
         width height «tile_width» «tile_height» limit ⌝ }
 {
     // One place more than the largest limit: the colour that overfills a tile has a place too.
     let mut keys = [0u32; 257];
     scan(
         chosen,
-        reduction,
+        least,
         pixels,
         width,
         height,

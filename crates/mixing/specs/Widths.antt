@@ -1,5 +1,6 @@
 -- The shifts of the modes, and the width of a bracket. Definitions only.
--- Written from document 01, "Choosing colours": "`bracket_width`: max·shift/16, rounded with halves up, clamped to 1..16", and refusal 1.
+-- Written from document 01, "Choosing colours": "`bracket_width`: max·shift/16, rounded with halves up, clamped to 1..16", and refusal 1;
+-- and from document 02, Ask 5: "`bracket_width` alone: shift not 3 to 6".
 use Prim.Native.Nat.{ℕ, _+_, _*_, _/_, min, max}
 use mathlib.Core.Bool.{Bool, not, _||_}
 use mathlib.Core.List.{List, [], _∷_}
@@ -9,9 +10,9 @@ use Rattle.replies.specs.Answers.{Answers, valueOr}
 use Rattle.mixing.specs.declared.Width.{Width}
 use Rattle.mixing.specs.declared.Width.the-variants.{Of, Refused}
 
--- the shifts of the ported modes: 3, 4, 5
+-- the shifts of the modes: 3 to 6
 unfoldable pub isShift : ℕ → Bool
-isShift shift = eqb shift 3 || (eqb shift 4 || eqb shift 5)
+isShift shift = eqb shift 3 || (eqb shift 4 || (eqb shift 5 || eqb shift 6))
 
 -- a width, brought to 1..16
 abbrev pub clampWidth : ℕ → ℕ

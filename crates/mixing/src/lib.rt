@@ -20,11 +20,11 @@ pub enum Width {
 // The widest bracket.
 const MAX_BRACKET_WIDTH: u64 = 16;
 
-// Whether a shift is one of the ported modes'.
-pub fn is_shift(shift: u32) -> bool
+// Whether a shift is one of the modes'.
+fn is_shift(shift: u32) -> bool
     ensures { λ t. ⌜ t ≡ isShift shift ⌝ }
 {
-    (shift == 3) | ((shift == 4) | (shift == 5))
+    (shift == 3) | ((shift == 4) | ((shift == 5) | (shift == 6)))
 }
 
 // A width, brought to 1..16.

@@ -1,12 +1,15 @@
-// What all calls on pictures share: the bounds of sizes and lent lengths, and the colours of a pixel.
+// What all calls on pictures share: the bounds of sizes and lent lengths, the pixels that reduce, and the colours of a pixel.
 ghost use mathlib.Core.Path.{_≡_};
 ghost use mathlib.Core.Bool.{true};
 ghost use Prim.Native.Nat.{_+_, _*_, _<_, _≤_};
 ghost use lib.ListN.{length};
-ghost use Rattle.picture.specs.Bounds.{sizeWrong, originWrong, tableWrong, lentWrong, sideWrong};
-ghost use Rattle.picture.specs.Pixels.{sourceAt, reducedBy, isSeen};
+ghost use Rattle.reducing.specs.declared.Reducing.{Reducing};
+ghost use Rattle.reducing.specs.Reduce.{keepsChannels};
+ghost use Rattle.picture.specs.Bounds.{sizeWrong, originWrong, tableWrong, opaqueNeeded, lentWrong, sideWrong};
+ghost use Rattle.picture.specs.Pixels.{sourceAt, basis, reducedBy, isSeen, seenFrom};
 use color::NormalizedColor;
 use color::ReducedColor;
+use reducing::Reducing;
 
 // Whether a side is above 4,096 or there are more than 1,048,576 pixels.
 pub fn size_wrong(width: u32, height: u32) -> bool
@@ -29,13 +32,34 @@ fn table_wrong(entries: usize) -> bool
     entries != 256
 }
 
-// Whether a table or the pixels that every call on a picture is lent have not the length that n pixels need. No public
-// call: the caller sees to the number of pixels.
-pub fn lent_wrong(reduction: usize, scale: usize, pixels: usize, n: usize) -> bool
+// How many bytes of opaque pixels n pixels need: four each, and none where alpha says what is transparent. No public call: the
+// caller sees to the number of pixels.
+fn opaque_needed(reducing: Reducing, n: usize) -> usize
     requires { ⌜ n ≤ 1048576 ⌝ }
-    ensures { λ r. ⌜ r ≡ lentWrong reduction scale pixels n ⌝ }
+    ensures { λ r. ⌜ r ≡ opaqueNeeded reducing n ⌝ }
 {
-    table_wrong(reduction) | (table_wrong(scale) | (pixels != 4 * n))
+    match reducing {
+        Reducing::ByAlpha => 0,
+        Reducing::Grey => 4 * n,
+        Reducing::OpaqueColor => 4 * n,
+    }
+}
+
+// Whether a table or pixels that every call on a picture is lent have not the length that n pixels need. No public call: the
+// caller sees to the number of pixels.
+pub fn lent_wrong(
+    reducing: Reducing,
+    reduction: usize,
+    scale: usize,
+    pixels: usize,
+    opaque: usize,
+    n: usize,
+) -> bool
+    requires { ⌜ n ≤ 1048576 ⌝ }
+    ensures { λ r. ⌜ r ≡ lentWrong reducing reduction scale pixels opaque n ⌝ }
+{
+    table_wrong(reduction)
+        | (table_wrong(scale) | ((pixels != 4 * n) | (opaque != opaque_needed(reducing, n))))
 }
 
 // Whether a tile's side is not from 1 to 4,096.
@@ -53,28 +77,60 @@ pub fn source_at(pixels: &[u8], i: usize) -> NormalizedColor
     NormalizedColor(color::rgba_at(pixels, i))
 }
 
-// Pixel i reduced: the one function that reduces a picture's pixels. No public call: the caller sees to the lengths.
-pub fn reduced_at(reduction: &[u8], pixels: &[u8], i: usize) -> ReducedColor
-    requires { ⌜ (length (now reduction) ≡ 256) × (4 * i + 3 < length (now pixels)) ⌝ }
-    ensures { λ c. ⌜ c ≡ reducedBy (now (reduction .entry)) (now (pixels .entry)) i ⌝ }
+// The pixels that reduce: the picture's own where alpha says what is transparent, else the opaque ones beside them.
+pub fn basis<'a>(reducing: Reducing, pixels: &'a [u8], opaque: &'a [u8]) -> &'a [u8]
+    ensures { λ r. ⌜ now r ≡ basis reducing (now (pixels .entry)) (now (opaque .entry)) ⌝ }
 {
-    color::reduce_color(reduction, source_at(pixels, i))
+    match reducing {
+        Reducing::ByAlpha => pixels,
+        Reducing::Grey => opaque,
+        Reducing::OpaqueColor => opaque,
+    }
 }
 
-// The red that pixel i reduces to where it is seen; where it is not, some number. Its alpha needs no look: that is for a test
-// that few pixels pass. No public call: the caller sees to the lengths.
-pub fn red_at(reduction: &[u8], pixels: &[u8], i: usize) -> u8
-    requires { ⌜ (length (now reduction) ≡ 256) × (4 * i + 3 < length (now pixels)) ⌝ }
-    ensures { λ r. ⌜ (let reduced = reducedBy (now (reduction .entry)) (now (pixels .entry)) in isSeen reduced i ≡ true → r ≡ reduced i .0 .r) ⌝ }
+// Pixel i reduced: the one function that reduces a picture's pixels. No public call: the caller sees to the lengths.
+pub fn reduced_at(reducing: Reducing, reduction: &[u8], basis: &[u8], i: usize) -> ReducedColor
+    requires { ⌜ (length (now reduction) ≡ 256) × (4 * i + 3 < length (now basis)) ⌝ }
+    ensures { λ c. ⌜ c ≡ reducedBy reducing (now (reduction .entry)) (now (basis .entry)) i ⌝ }
 {
-    let c = source_at(pixels, i);
+    reducing::reduce_color(reducing, reduction, source_at(basis, i))
+}
+
+// The red that pixel i reduces to where it is seen and its own channels are kept; where not, some number. Neither its alpha nor
+// its luma needs a look: that is for a test that few pixels pass. No public call: the caller sees to the lengths.
+pub fn red_at(reduction: &[u8], basis: &[u8], i: usize) -> u8
+    requires { ⌜ (length (now reduction) ≡ 256) × (4 * i + 3 < length (now basis)) ⌝ }
+    ensures { λ r. ⌜ ((by : Reducing) → let reduced = reducedBy by (now (reduction .entry)) (now (basis .entry)) in
+        keepsChannels by ≡ true → isSeen reduced i ≡ true → r ≡ reduced i .0 .r) ⌝ }
+{
+    let c = source_at(basis, i);
     color::looked_up(reduction, c.0.r)
 }
 
-// Whether pixel i is not transparent. No public call: the caller sees to the lengths.
-pub fn is_seen(reduction: &[u8], pixels: &[u8], i: usize) -> bool
-    requires { ⌜ (length (now reduction) ≡ 256) × (4 * i + 3 < length (now pixels)) ⌝ }
-    ensures { λ t. ⌜ t ≡ isSeen (reducedBy (now (reduction .entry)) (now (pixels .entry))) i ⌝ }
+// Pixel i of a picture reduced, from what every call is lent. No public call: the caller sees to the lengths.
+pub fn reduced_in(
+    reducing: Reducing,
+    reduction: &[u8],
+    pixels: &[u8],
+    opaque: &[u8],
+    i: usize,
+) -> ReducedColor
+    requires { ⌜ (length (now reduction) ≡ 256) × (4 * i + 3 < length (basis reducing (now pixels) (now opaque))) ⌝ }
+    ensures { λ c. ⌜ c ≡ reducedBy reducing (now (reduction .entry)) (basis reducing (now (pixels .entry)) (now (opaque .entry))) i ⌝ }
 {
-    !reduced_at(reduction, pixels, i).is_transparent()
+    match reducing {
+        Reducing::ByAlpha => reduced_at(reducing, reduction, pixels, i),
+        Reducing::Grey => reduced_at(reducing, reduction, opaque, i),
+        Reducing::OpaqueColor => reduced_at(reducing, reduction, opaque, i),
+    }
+}
+
+// Whether pixel i is not transparent, by its own alpha and the least that is seen (`reducing::least_alpha`): no look at the
+// pixels that reduce. No public call: the caller sees to the length.
+pub fn is_seen(least: u8, pixels: &[u8], i: usize) -> bool
+    requires { ⌜ 4 * i + 3 < length (now pixels) ⌝ }
+    ensures { λ t. ⌜ t ≡ seenFrom least (now (pixels .entry)) i ⌝ }
+{
+    let c = source_at(pixels, i);
+    !(c.0.a < least)
 }

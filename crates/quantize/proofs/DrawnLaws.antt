@@ -69,6 +69,7 @@ module _ (q : Commission) (indices out : List ℕ) (cells : List ℤ) (f : Fitti
       reduction = f .reduction;
       scale = f .scale;
       pixels = f .pixels;
+      opaque = f .opaque;
       colors = omega arith;
       ranged = subst (λ (o : List Float). RangedList o (entries q)) (sym e) ranged;
       some = λ i h s. f .some;
@@ -79,5 +80,5 @@ module _ (q : Commission) (indices out : List ℕ) (cells : List ℤ) (f : Fitti
       long : length chosen ≡ 4 * size q
       long = ap length e ∙ bytes-length (quantizing q)
 
-      pub finishable : Finishable (q .reduction) (q .scale) (q .pixels) (size q) chosen
-      finishable = record { reduces = f .reduction; scales = f .scale; source = f .pixels; long = long }
+      pub finishable : Finishable (q .scale) (q .pixels) (size q) chosen
+      finishable = record { scales = f .scale; source = f .pixels; long = long }

@@ -15,6 +15,7 @@ use Rattle.replies.proofs.AnswerLaws.{answers-first, value-number}
 use Rattle.picture.specs.Bounds.{lentWrong}
 use Rattle.picture.proofs.BoundLaws.{sized, lent-so}
 use Rattle.patterns.specs.Kinds.{isKind, cellsNeeded}
+use Rattle.mixing.proofs.Widths.{pairing-shift}
 use Rattle.quantize.specs.declared.Quantization.{Quantization}
 use Rattle.quantize.specs.declared.Quantization.the-variants.{Accepted, Refused}
 use Rattle.quantize.specs.declared.Lengths.{Lengths}
@@ -33,27 +34,28 @@ own-number = value-number numberOf [] Accepted Refused refl (λ n. refl)
 some-more : (n : ℕ) → eqb n 0 ≡ false → 0 < n
 some-more n e = let h = eqb-false n 0 e in omega arith
 
-pub accepted : (q : Commission) (s : Lengths) → firstReply (checks (q .shift) (q .kind) (q .width) (q .height) s) ≡ 0 → Fitting q s
+pub accepted : (q : Commission) (s : Lengths) → firstReply (checks (q .shift) (q .reducing) (q .kind) (q .width) (q .height) s) ≡ 0 → Fitting q s
 unfolding lengthsWrong entriesWrong cellsNeeded
 accepted q s e =
     let n = size q in
-    let none = reply-none (checks (q .shift) (q .kind) (q .width) (q .height) s) tt e in
+    let none = reply-none (checks (q .shift) (q .reducing) (q .kind) (q .width) (q .height) s) tt e in
     let mode = or-split (not (isKind (q .kind))) _ (none .0) in
     let bounds = sized (q .width) (q .height) (none .1 .1 .0) in
-    let l1 = or-split (lentWrong (s .reduction) (s .scale) (s .pixels) n) _ (none .1 .1 .1 .0) in
+    let l1 = or-split (lentWrong (q .reducing) (s .reduction) (s .scale) (s .pixels) (s .opaque) n) _ (none .1 .1 .1 .0) in
     let l2 = or-split (not (eqb (s .palette % 4) 0)) _ (l1 .1) in
     let l3 = or-split (not (eqb (s .indices) n)) _ (l2 .1) in
     let l4 = or-split (not (eqb (s .out) (4 * n))) _ (l3 .1) in
-    let lent = lent-so (s .reduction) (s .scale) (s .pixels) n (l1 .0) in
+    let lent = lent-so (q .reducing) (s .reduction) (s .scale) (s .pixels) (s .opaque) n (l1 .0) in
     let p = or-split (eqb (s .palette / 4) 0) _ (none .1 .1 .1 .1 .0) in
     record {
-      shift = not-false _ (mode .1);
+      shift = pairing-shift (q .reducing) (q .shift) (not-false _ (mode .1));
       wide = bounds .0;
       high = bounds .1;
       small = bounds .2;
       reduction = lent .0;
       scale = lent .1;
       pixels = lent .2;
+      opaque = lent .3;
       indices = equals _ _ (l3 .0);
       out = equals _ _ (l4 .0);
       cells = λ d. equals _ _ (l4 .1) ∙ rw d;

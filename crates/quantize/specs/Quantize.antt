@@ -2,7 +2,7 @@
 -- Written from document 01, "Choosing colours" ("A palette index is the first entry equal to the chosen reduced colour. Transparent pixels get
 -- index 0 and `TRANSPARENT`", "max is the palette's length in `quantize_pixels`", "`quantize_pixels` uses origin 0") and "Bounds and replies"; and
 -- from document 02, Ask 9: "15 for kinds 5 and 6 in every call that takes a kind, directly after 1"; Ask 11: "signed 16-bit counts of sixteenths, three
--- a pixel", "3 measures the new length".
+-- a pixel", "3 measures the new length"; Ask 5: "Each call names its reduction", "1 for any other pairing", "3 covers the new buffer".
 use Prim.Native.Nat.{ℕ, _*_, _/_, _%_, _<_}
 use mathlib.Core.Path.{_≡_}
 use mathlib.Core.Bool.{Bool, cond, not, _||_}
@@ -17,11 +17,13 @@ use Rattle.replies.specs.Replies.{Reply, _if_, after}
 use Rattle.replies.specs.Answers.{Answers, valueOr}
 use Rattle.color.specs.declared.ReducedColor.{ReducedColor}
 use Rattle.color.specs.Color.{reducedAt, sameReduced}
+use Rattle.reducing.specs.declared.Reducing.{Reducing}
+use Rattle.reducing.specs.Reduce.{isPairing}
 use Rattle.picture.specs.Bounds.{sizeWrong, lentWrong}
 use Rattle.picture.specs.Pixels.{isSeen}
 use Rattle.conversion.specs.Lists.{listOklab}
 use Rattle.patterns.specs.Kinds.{isKind, isRetired, cellsNeeded}
-use Rattle.mixing.specs.Widths.{isShift, widthOf}
+use Rattle.mixing.specs.Widths.{widthOf}
 use Rattle.drawing.specs.declared.Ditherer.{Ditherer}
 use Rattle.drawing.specs.declared.ColorZero.the-variants.{Absent}
 use Rattle.drawing.specs.Drawing.{Drawing, drawn}
@@ -34,6 +36,7 @@ use Rattle.quantize.specs.declared.Lengths.{Lengths}
 -- what the caller asks for, and lends to be read
 pub record Commission : Type 0 where
   pub shift : ℕ
+  pub reducing : Reducing
   pub kind : ℕ
   pub width : ℕ
   pub height : ℕ
@@ -41,11 +44,22 @@ pub record Commission : Type 0 where
   pub scale : List ℕ
   pub palette : List ℕ
   pub pixels : List ℕ
+  pub opaque : List ℕ
 
 -- the same from its parts
-abbrev pub commission : (shift kind width height : ℕ) (reduction scale palette pixels : List ℕ) → Commission
-commission shift kind width height reduction scale palette pixels =
-    record { shift = shift; kind = kind; width = width; height = height; reduction = reduction; scale = scale; palette = palette; pixels = pixels }
+abbrev pub commission : (shift : ℕ) (reducing : Reducing) (kind width height : ℕ) (reduction scale palette pixels opaque : List ℕ) → Commission
+commission shift reducing kind width height reduction scale palette pixels opaque = record {
+  shift = shift;
+  reducing = reducing;
+  kind = kind;
+  width = width;
+  height = height;
+  reduction = reduction;
+  scale = scale;
+  palette = palette;
+  pixels = pixels;
+  opaque = opaque;
+}
 
 -- how many entries the palette has, four bytes each, and how many pixels the picture
 abbrev pub entries : Commission → ℕ
@@ -66,7 +80,7 @@ dithererOf q width = record { kind = q .kind; «origin_x» = 0; «origin_y» = 0
 
 -- what is lent to the drawing, the palette with its Oklab colours as the candidates
 abbrev pub lentOf : Commission → List Float → Lent
-lentOf q oklab = lent (q .reduction) (q .scale) (q .pixels) (q .palette) oklab (entries q)
+lentOf q oklab = lent (q .reducing) (q .reduction) (q .scale) (q .pixels) (q .opaque) (q .palette) oklab (entries q)
 
 -- the picture that is drawn: no colour zero, and "max is the palette's length"
 abbrev pub quantizing : Commission → Drawing
@@ -109,15 +123,16 @@ lengthsOf q indices out cells = record {
   scale = length (q .scale);
   palette = length (q .palette);
   pixels = length (q .pixels);
+  opaque = length (q .opaque);
   indices = length indices;
   out = length out;
   cells = length cells;
 }
 
--- a lent length is wrong, for a kind and a number of pixels
-unfoldable pub lengthsWrong : ℕ → ℕ → Lengths → Bool
-lengthsWrong kind n s =
-    lentWrong (s .reduction) (s .scale) (s .pixels) n
+-- a lent length is wrong, for a reduction, a kind and a number of pixels
+unfoldable pub lengthsWrong : Reducing → ℕ → ℕ → Lengths → Bool
+lengthsWrong by kind n s =
+    lentWrong by (s .reduction) (s .scale) (s .pixels) (s .opaque) n
     || (not (eqb (s .palette % 4) 0) || (not (eqb (s .indices) n) || (not (eqb (s .out) (4 * n)) || not (eqb (s .cells) (cellsNeeded kind n)))))
 
 -- "Palette 1..256 entries"
@@ -125,17 +140,17 @@ unfoldable pub entriesWrong : ℕ → Bool
 entriesWrong n = eqb n 0 || ltb 256 n
 
 -- the numbers that this call can answer with, in their order
-abbrev pub checks : (shift kind width height : ℕ) → Lengths → List Reply
-checks shift kind width height s =
-    1 if (not (isKind kind) || not (isShift shift))
+abbrev pub checks : (shift : ℕ) → Reducing → (kind width height : ℕ) → Lengths → List Reply
+checks shift by kind width height s =
+    1 if (not (isKind kind) || not (isPairing by shift))
     ∷ 15 if isRetired kind
     ∷ 2 if sizeWrong width height
-    ∷ 3 if lengthsWrong kind (width * height) s
+    ∷ 3 if lengthsWrong by kind (width * height) s
     ∷ 4 if entriesWrong (s .palette / 4)
     ∷ []
 
 abbrev pub replies : {C : Type 0} → Commission → (indices out : List ℕ) → List C → List Reply
-replies q indices out cells = checks (q .shift) (q .kind) (q .width) (q .height) (lengthsOf q indices out cells)
+replies q indices out cells = checks (q .shift) (q .reducing) (q .kind) (q .width) (q .height) (lengthsOf q indices out cells)
 
 -- ---- the promise
 

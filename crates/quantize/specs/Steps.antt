@@ -3,6 +3,7 @@
 use Prim.Native.Nat.{_*_, _/_, _≤_, _<_}
 use mathlib.Core.Path.{_≡_}
 use mathlib.Core.Bool.{true}
+use Rattle.picture.specs.Bounds.{opaqueNeeded}
 use Rattle.patterns.specs.Kinds.{isDiffusion}
 use Rattle.mixing.specs.Widths.{isShift}
 use Rattle.quantize.specs.declared.Lengths.{Lengths}
@@ -17,6 +18,7 @@ pub record Fitting (q : Commission) (s : Lengths) : Type 0 where
   pub reduction : s .reduction ≡ 256
   pub scale : s .scale ≡ 256
   pub pixels : s .pixels ≡ 4 * size q
+  pub opaque : s .opaque ≡ opaqueNeeded (q .reducing) (size q)
   pub indices : s .indices ≡ size q
   pub out : s .out ≡ 4 * size q
   pub cells : isDiffusion (q .kind) ≡ true → s .cells ≡ 3 * size q

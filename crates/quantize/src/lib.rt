@@ -3,6 +3,7 @@
 // finished.
 use drawing::ColorZero;
 use drawing::Ditherer;
+use reducing::Reducing;
 ghost use mathlib.Core.Path.{_≡_};
 ghost use Prim.Native.Nat.{_≤_};
 ghost use lib.ListN.{length};
@@ -24,6 +25,7 @@ pub struct Lengths {
     pub scale: usize,
     pub palette: usize,
     pub pixels: usize,
+    pub opaque: usize,
     pub indices: usize,
     pub out: usize,
     pub cells: usize,
@@ -32,11 +34,11 @@ pub struct Lengths {
 // ---- refusals
 
 // Whether a lent length is wrong. No public call: the caller sees to the size.
-fn lengths_wrong(kind: u32, size: usize, s: Lengths) -> bool
+fn lengths_wrong(reducing: Reducing, kind: u32, size: usize, s: Lengths) -> bool
     requires { ⌜ size ≤ 1048576 ⌝ }
-    ensures { λ t. ⌜ t ≡ lengthsWrong kind size s ⌝ }
+    ensures { λ t. ⌜ t ≡ lengthsWrong reducing kind size s ⌝ }
 {
-    picture::lent_wrong(s.reduction, s.scale, s.pixels, size)
+    picture::lent_wrong(reducing, s.reduction, s.scale, s.pixels, s.opaque, size)
         | ((s.palette % 4 != 0)
             | ((s.indices != size)
                 | ((s.out != 4 * size) | (s.cells != patterns::cells_needed(kind, size)))))
@@ -50,10 +52,10 @@ fn entries_wrong(count: usize) -> bool
 }
 
 // The number of the answer: 0 where the picture is accepted, else the first that applies.
-fn refusal(shift: u32, kind: u32, width: u32, height: u32, s: Lengths) -> u8
-    ensures { λ n. ⌜ n ≡ firstReply (checks shift kind width height s) ⌝ }
+fn refusal(shift: u32, reducing: Reducing, kind: u32, width: u32, height: u32, s: Lengths) -> u8
+    ensures { λ n. ⌜ n ≡ firstReply (checks shift reducing kind width height s) ⌝ }
 {
-    let mode_wrong = !patterns::is_kind(kind) | !mixing::is_shift(shift);
+    let mode_wrong = !patterns::is_kind(kind) | !reducing::is_pairing(reducing, shift);
     let retired = patterns::is_retired(kind);
     let size_wrong = picture::size_wrong(width, height);
     if mode_wrong {
@@ -66,7 +68,7 @@ fn refusal(shift: u32, kind: u32, width: u32, height: u32, s: Lengths) -> u8
         return 2;
     }
     let size = width as usize * height as usize;
-    if lengths_wrong(kind, size, s) {
+    if lengths_wrong(reducing, kind, size, s) {
         return 3;
     }
     if entries_wrong(s.palette / 4) {
@@ -91,6 +93,7 @@ fn answer(number: u8) -> Quantization
 // to all lengths.
 fn quantize(
     shift: u32,
+    reducing: Reducing,
     kind: u32,
     width: u32,
     height: u32,
@@ -98,14 +101,15 @@ fn quantize(
     scale: &[u8],
     palette: &[u8],
     pixels: &[u8],
+    opaque: &[u8],
     room: &mut [f32],
     indices: &mut [u8],
     out: &mut [u8],
     cells: &mut [i16],
 )
-    requires { ⌜ (let q = commission shift kind width height (now reduction) (now scale) (now palette) (now pixels) in
+    requires { ⌜ (let q = commission shift reducing kind width height (now reduction) (now scale) (now palette) (now pixels) (now opaque) in
         Fitting q (lengthsOf q (now indices) (now out) (now cells)) × (length (now room) ≡ 768)) ⌝ }
-    ensures { λ _. ⌜ (let q = commission shift kind width height (now (reduction .entry)) (now (scale .entry)) (now (palette .entry)) (now (pixels .entry)) in
+    ensures { λ _. ⌜ (let q = commission shift reducing kind width height (now (reduction .entry)) (now (scale .entry)) (now (palette .entry)) (now (pixels .entry)) (now (opaque .entry)) in
         (now (indices .exit) ≡ indicesOf q) × (now (out .exit) ≡ pixelsOf q) × (now (cells .exit) ≡ cellsAfter (quantizing q) (now (cells .entry)))) ⌝ }
 {
     let size = width as usize * height as usize;
@@ -124,9 +128,11 @@ fn quantize(
     ditherer.draw(
         ColorZero::Absent,
         &linear,
+        reducing,
         reduction,
         scale,
         pixels,
+        opaque,
         palette,
         oklab,
         count,
@@ -134,13 +140,15 @@ fn quantize(
         out,
         cells,
     );
-    drawing::finish(reduction, scale, pixels, size, out);
+    let least = reducing::least_alpha(reducing);
+    drawing::finish(least, scale, pixels, size, out);
 }
 
 // Quantizes a picture to a palette: each pixel's palette index, and its colour at full precision. On a refusal all
 // buffers are as they were.
 pub fn quantize_pixels(
     shift: u32,
+    reducing: Reducing,
     kind: u32,
     width: u32,
     height: u32,
@@ -148,11 +156,12 @@ pub fn quantize_pixels(
     scale: &[u8],
     palette: &[u8],
     pixels: &[u8],
+    opaque: &[u8],
     indices: &mut [u8],
     out: &mut [u8],
     cells: &mut [i16],
 ) -> Quantization
-    ensures { λ r. ⌜ Quantized (commission shift kind width height (now (reduction .entry)) (now (scale .entry)) (now (palette .entry)) (now (pixels .entry)))
+    ensures { λ r. ⌜ Quantized (commission shift reducing kind width height (now (reduction .entry)) (now (scale .entry)) (now (palette .entry)) (now (pixels .entry)) (now (opaque .entry)))
         (now (indices .entry)) (now (out .entry)) (now (cells .entry)) r (now (indices .exit)) (now (out .exit)) (now (cells .exit)) ⌝ }
 {
     let lengths = Lengths {
@@ -160,17 +169,19 @@ pub fn quantize_pixels(
         scale: scale.len(),
         palette: palette.len(),
         pixels: pixels.len(),
+        opaque: opaque.len(),
         indices: indices.len(),
         out: out.len(),
         cells: cells.len(),
     };
-    let number = refusal(shift, kind, width, height, lengths);
+    let number = refusal(shift, reducing, kind, width, height, lengths);
     if number != 0 {
         return answer(number);
     }
     let mut room = [0.0f32; 768];
     quantize(
         shift,
+        reducing,
         kind,
         width,
         height,
@@ -178,6 +189,7 @@ pub fn quantize_pixels(
         scale,
         palette,
         pixels,
+        opaque,
         &mut room,
         indices,
         out,

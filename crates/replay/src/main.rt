@@ -142,10 +142,10 @@ fn replay(list: &[u8], room: &mut [u8]) {
 }
 
 // Room for the whole list.
-fn list_buffer() -> [u8; 500000]
-    ensures { λ r. ⌜ 500000 ≡ length r ⌝ }
+fn list_buffer() -> [u8; 600000]
+    ensures { λ r. ⌜ 600000 ≡ length r ⌝ }
 {
-    [0; 500000]
+    [0; 600000]
 }
 
 fn main() {

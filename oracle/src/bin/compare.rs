@@ -1,7 +1,7 @@
 //! Compares the port with the original, through the port's C interface.
 //!
 //!   compare [random] [--seed N]... [--cases N] [--from N] [--call NAME]... [--mock]
-//!   compare colors | thresholds | widths | lerps | exhaustive [--mock]
+//!   compare colors | lumas | thresholds | widths | lerps | exhaustive [--mock]
 //!
 //! `--mock` puts the cases to the right mock instead of the linked archive, and
 //! `--slip NAME` to the mock with that slip, which shows what a difference is like.
@@ -63,7 +63,7 @@ fn options() -> Result<Options, String> {
                     other => return Err(format!("there is no root {other}")),
                 };
             }
-            "random" | "colors" | "thresholds" | "widths" | "lerps" | "exhaustive" => options.what = word,
+            "random" | "colors" | "lumas" | "thresholds" | "widths" | "lerps" | "exhaustive" => options.what = word,
             _ => return Err(format!("{word} is not known")),
         }
     }
@@ -99,6 +99,9 @@ fn run(port: &impl Port, options: &Options) -> ExitCode {
     }
     if all || options.what == "lerps" {
         drive::lerp_grid(&mut report, port);
+    }
+    if all || options.what == "lumas" {
+        drive::all_lumas(&mut report, port);
     }
     if all || options.what == "colors" {
         drive::all_colors(&mut report, port);

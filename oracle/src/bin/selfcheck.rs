@@ -11,8 +11,9 @@ use oracle::case::{Call, Case, Lookup, Quantize, ToMode};
 use oracle::cells::{self, LARGEST};
 use oracle::generate::{self, Style};
 use oracle::hooks::Tables;
-use oracle::model::{self, Entry, Picture, Pixel};
-use oracle::original::{self, How, modes_of, own_tables};
+use oracle::lumas;
+use oracle::model::{self, BY_ALPHA, Entry, Lent, PAIRINGS, Picture, Pixel};
+use oracle::original::{self, How, modes_of, own_opaque, own_tables};
 use oracle::reference::{expected, settings_of};
 use oracle::rng::Rng;
 use oracle::words::number_after;
@@ -49,8 +50,7 @@ fn hold_cells(tally: &mut Tally, check: &'static str, theirs: &[f32], ours: &[i1
 }
 
 fn tables_of(case: &Case) -> Tables {
-    let lent = case.tables().unwrap();
-    Tables { reduction: lent.reduction[..].try_into().unwrap(), scale: lent.scale[..].try_into().unwrap() }
+    case.tables().unwrap().accepted()
 }
 
 /// The kinds stand in the order that document 01 numbers.
@@ -73,6 +73,12 @@ fn check_conversion(tally: &mut Tally) {
     }
 }
 
+/// Luma of all colours.
+fn check_lumas(tally: &mut Tally) {
+    let wrong = lumas::wrong(&lumas::all());
+    tally.hold("luma of all 2^24 colours", wrong.is_empty(), || wrong[0].clone());
+}
+
 fn check_thresholds(tally: &mut Tally) {
     for kind in 1..=8 {
         for place in 0..256u32 {
@@ -86,7 +92,7 @@ fn check_thresholds(tally: &mut Tally) {
 fn check_widths(tally: &mut Tally) {
     let ends = (0..64).flat_map(|bit| [(1u64 << bit) - 1, 1 << bit, (1 << bit) + 1]);
     for max in (0..70_000).chain(ends).chain([u64::MAX]) {
-        for shift in 3..=5 {
+        for shift in 3..=6 {
             let same = model::bracket_width(shift, max) == original::bracket_width(shift, max);
             tally.hold("bracket widths", same, || format!("shift {shift}, max {max}"));
         }
@@ -165,43 +171,48 @@ fn check_account(tally: &mut Tally, picture: &Picture, drawn: &[Pixel], name: &s
 }
 
 fn check_quantize(tally: &mut Tally, case: &Quantize, tables: &Tables, name: &str) {
-    let Quantize { shift, kind, width, height, palette, pixels, .. } = case;
-    let ours = model::quantize_pixels(*shift, *kind, [*width, *height], tables, palette, pixels);
-    let hows = hows(*shift, tables);
-    for how in hows {
+    let Quantize { kind, width, height, palette, pixels, .. } = case;
+    let lent = case.lent(tables);
+    let ours = model::quantize_pixels(lent, *kind, [*width, *height], palette);
+    for how in hows(lent) {
         let theirs = original::quantize_pixels(how, *kind, *width, *height, palette, pixels);
         let same = ours.indices == theirs.indices && ours.out == theirs.out;
         tally.hold("quantize_pixels", same, || name.into());
         hold_cells(tally, "cells of quantize_pixels", &theirs.cells, &ours.cells, name);
     }
     if model::is_diffusion(*kind) {
-        let picture = bare_picture(*kind, [*width, *height], tables, pixels);
+        let picture = bare_picture(*kind, [*width, *height], lent);
         check_account(tally, &picture, &ours.drawn, name);
     }
 }
 
 /// A picture as the account reads it: its size and kernel only.
-fn bare_picture<'a>(kind: u32, [width, height]: [u32; 2], tables: &'a Tables, pixels: &'a [u8]) -> Picture<'a> {
-    Picture { kind, width, height, origin: [0, 0], zero: None, tables, pixels, candidates: &[], bracket_width: 1 }
+fn bare_picture(kind: u32, [width, height]: [u32; 2], lent: Lent<'_>) -> Picture<'_> {
+    Picture { kind, width, height, origin: [0, 0], zero: None, lent, candidates: &[], bracket_width: 1 }
 }
 
-/// The ways in which the original can be asked for these tables: lent, in every
-/// mode of the shift, and without lending where they are its own.
-fn hows(shift: u32, tables: &Tables) -> Vec<How<'_>> {
-    let mut hows: Vec<How> =
-        modes_of(shift).iter().map(|&mode| How { mode, lent: Some(tables), nearest: false }).collect();
+/// The ways in which the original can be asked for what is lent: by lending it, in
+/// every mode that reduces so; without tables where they are its own; and without
+/// opaque pixels where they are.
+fn hows(lent: Lent<'_>) -> Vec<How<'_>> {
+    let Lent { shift, reducing, tables, pixels, opaque } = lent;
+    let (modes, all) = (modes_of(shift, reducing), How::lent(lent));
+    let mut hows: Vec<How> = modes.iter().map(|&mode| How { mode, ..all }).collect();
     for nearest in [false, true] {
         if *tables == own_tables(shift, nearest) {
-            hows.push(How { mode: modes_of(shift)[0], lent: None, nearest });
+            hows.extend(modes.iter().map(|&mode| How { mode, lent: None, nearest, ..all }));
         }
+    }
+    if reducing != BY_ALPHA && opaque == own_opaque(pixels) {
+        hows.extend(hows.clone().into_iter().map(|how| How { opaque: None, ..how }));
     }
     hows
 }
 
 fn check_to_mode(tally: &mut Tally, case: &ToMode, tables: &Tables, name: &str) {
-    let settings = settings_of(case);
-    let ours = model::dither_to_mode(case.shift, &settings, tables, &case.pixels);
-    for how in hows(case.shift, tables) {
+    let (settings, lent) = (settings_of(case), case.lent(tables));
+    let ours = model::dither_to_mode(lent, &settings);
+    for how in hows(lent) {
         let theirs = original::dither_to_mode(how, &settings, &case.pixels);
         tally.hold("a tile is over its limit", theirs.is_none() == ours.tile.is_some(), || name.into());
         if let Some((out, cells)) = theirs {
@@ -210,10 +221,10 @@ fn check_to_mode(tally: &mut Tally, case: &ToMode, tables: &Tables, name: &str) 
         }
     }
     if let Some(tile) = ours.tile {
-        check_tile(tally, case, tables, tile, name);
+        check_tile(tally, case, lent, tile, name);
     }
     if model::is_diffusion(case.kind) {
-        let picture = bare_picture(case.kind, [case.width, case.height], tables, &case.pixels);
+        let picture = bare_picture(case.kind, [case.width, case.height], lent);
         check_account(tally, &picture, &ours.drawn, name);
     }
 }
@@ -222,26 +233,28 @@ fn check_to_mode(tally: &mut Tally, case: &ToMode, tables: &Tables, name: &str) 
 /// away it still answers that a tile is over its limit, and with the rows of
 /// this tile taken away too it does not. Candidates come from all pixels, so
 /// this is asked only where no colour goes away with the rows.
-fn check_tile(tally: &mut Tally, case: &ToMode, tables: &Tables, tile: usize, name: &str) {
+fn check_tile(tally: &mut Tally, case: &ToMode, lent: Lent, tile: usize, name: &str) {
     let across = case.width.div_ceil(case.tile[0]);
     let row = tile as u32 / across;
-    let whole = model::candidate_colors_in(tables, &case.pixels);
+    let whole = model::candidate_colors_in(lent);
     for (rows, over) in [(row * case.tile[1], false), (((row + 1) * case.tile[1]).min(case.height), true)] {
-        let pixels = &case.pixels[..(4 * rows * case.width) as usize];
-        if model::candidate_colors_in(tables, pixels) != whole {
+        let bytes = (4 * rows * case.width) as usize;
+        let opaque = &lent.opaque[..bytes.min(lent.opaque.len())];
+        let lent = Lent { pixels: &lent.pixels[..bytes], opaque, ..lent };
+        if model::candidate_colors_in(lent) != whole {
             continue;
         }
         let settings = original::Settings { height: rows, ..settings_of(case) };
-        let none = original::dither_to_mode(How::lent(case.shift, tables), &settings, pixels).is_none();
+        let none = original::dither_to_mode(How::lent(lent), &settings, lent.pixels).is_none();
         tally.hold("row of the overfull tile", none == over, || format!("{name} rows {rows}"));
     }
 }
 
 fn check_candidates(tally: &mut Tally, case: &ToMode, tables: &Tables, name: &str) {
-    let ours = model::candidate_colors_in(tables, &case.pixels);
+    let ours = model::candidate_colors_in(case.lent(tables));
     let reduced: Vec<u8> = ours.iter().flat_map(|e| e.reduced).collect();
     let lab: Vec<f32> = ours.iter().flat_map(|e| e.oklab).collect();
-    for how in hows(case.shift, tables) {
+    for how in hows(case.lent(tables)) {
         let theirs = original::candidate_colors_in(how, case.width, case.height, &case.pixels);
         let same = reduced == theirs.0 && bits(&lab) == bits(&theirs.1);
         tally.hold("candidate_colors_in", same, || name.into());
@@ -264,26 +277,32 @@ fn check_pictures(tally: &mut Tally, seed: u64, cases: u64) {
     }
 }
 
-/// Every kind, the retired ones among them, with every shift and rounding of the
-/// original's own tables, and as many arbitrary tables.
+/// Every kind, the retired ones among them, with every mode and rounding: the original's
+/// own tables, and as many arbitrary ones; of opaque pixels its own, and arbitrary ones.
 fn check_every_kind(tally: &mut Tally, seed: u64) {
     let mut rng = Rng::new(seed);
-    for turn in 0..11 * 3 * 4 {
-        let (kind, shift, style) = (turn % 11, turn / 11 % 3 + 3, turn / 33);
+    for turn in 0..11 * 6 * 4 {
+        let (kind, [shift, reducing], style) = (turn % 11, PAIRINGS[turn as usize / 11 % 6], turn / 66);
         let random =
             Tables { reduction: std::array::from_fn(|_| rng.byte()), scale: std::array::from_fn(|_| rng.byte()) };
         let tables = if style < 2 { own_tables(shift, style == 1) } else { random };
         let [width, height] = [13, 11];
         let pixels = rng.bytes(4 * (width * height) as usize);
+        let opaque = match reducing {
+            BY_ALPHA => vec![],
+            _ if style % 2 == 0 => own_opaque(&pixels),
+            _ => rng.bytes(pixels.len()),
+        };
         let palette = rng.bytes(4 * 12).iter().map(|b| b & 31).collect();
         let name = format!("every kind, turn {turn}");
-        let case = Quantize { shift, kind, width, height, palette, pixels: pixels.clone(), ..Quantize::default() };
-        check_quantize(tally, &case, &tables, &name);
-        let limit = rng.pick(&[8, 40, 256]);
+        let (limit, origin, tile) = (rng.pick(&[8, 40, 256]), [3, 9], [4, 5]);
         let case =
-            ToMode { shift, kind, width, height, origin: [3, 9], tile: [4, 5], limit, pixels, ..ToMode::default() };
+            ToMode { shift, reducing, kind, width, height, origin, tile, limit, pixels, opaque, ..ToMode::default() };
         check_candidates(tally, &case, &tables, &name);
         check_to_mode(tally, &case, &tables, &name);
+        let ToMode { pixels, opaque, .. } = case;
+        let case = Quantize { shift, reducing, kind, width, height, palette, pixels, opaque, ..Quantize::default() };
+        check_quantize(tally, &case, &tables, &name);
     }
 }
 
@@ -292,6 +311,7 @@ fn main() -> ExitCode {
     let mut tally = Tally::default();
     check_kinds(&mut tally);
     check_conversion(&mut tally);
+    check_lumas(&mut tally);
     check_thresholds(&mut tally);
     check_widths(&mut tally);
     check_rounding(&mut tally);

@@ -18,6 +18,7 @@ fn right_is_right(seed: u64, cases: u64) -> bool {
     drive::random(&mut report, &port, &Call::ALL, seed, 0, cases);
     drive::all_thresholds(&mut report, &port);
     drive::all_widths(&mut report, &port);
+    drive::all_lumas(&mut report, &port);
     for difference in &report.found {
         println!("differs: {difference}");
     }

@@ -1,8 +1,8 @@
 //! Fixed cases at the bounds that are too large to be drawn often.
 
 use crate::case::{Candidates, Case, List, Lookup, Quantize, ToMode};
-use crate::hooks::Tables;
-use crate::model;
+use crate::examples::greys::kept;
+use crate::model::{self, BY_ALPHA, GREY, OPAQUE_COLOR};
 use crate::original::{own_tables, to_oklab};
 use crate::rng::Rng;
 
@@ -22,12 +22,14 @@ fn whole_quantize(kind: u32, width: u32, height: u32, entries: usize) -> Case {
     let cells = if model::is_diffusion(kind) { 3 * count } else { 0 };
     Case::QuantizePixels(Quantize {
         shift: 3,
+        reducing: BY_ALPHA,
         kind,
         width,
         height,
         tables: (&own_tables(3, false)).into(),
         palette: sequence_bytes(4 * entries, 5).iter().map(|b| b & 31).collect(),
         pixels: noise(count, 6),
+        opaque: vec![],
         indices: vec![0x31; count],
         out: vec![0x32; 4 * count],
         cells: vec![i16::MIN; cells],
@@ -39,6 +41,7 @@ fn whole_to_mode(kind: u32, width: u32, height: u32, limit: u32, places: usize) 
     let cells = if model::is_diffusion(kind) { 3 * count } else { 0 };
     Case::DitherToMode(ToMode {
         shift: 5,
+        reducing: BY_ALPHA,
         kind,
         width,
         height,
@@ -49,6 +52,7 @@ fn whole_to_mode(kind: u32, width: u32, height: u32, limit: u32, places: usize) 
         zero: [1, 2, 3, 0],
         tables: (&own_tables(5, true)).into(),
         pixels: noise(count, 7),
+        opaque: vec![],
         places: vec![0x33; 4 * places],
         oklab: vec![f32::NAN; 3 * places],
         out: vec![0x34; 4 * count],
@@ -83,23 +87,57 @@ fn far_twin(entries: usize) -> Lookup {
 
 /// Colours in descending order, with as much room as there can be.
 fn many_candidates(places: usize) -> Case {
-    let identity = Tables { reduction: std::array::from_fn(|v| v as u8), scale: std::array::from_fn(|v| v as u8) };
     let pixels = (0..65_536u32).rev().flat_map(|n| [(n >> 11) as u8, (n >> 5) as u8 & 63, (n & 31) as u8, 255]);
     Case::CandidateColorsIn(Candidates {
         shift: 4,
+        reducing: BY_ALPHA,
         width: 256,
         height: 256,
-        tables: (&identity).into(),
+        tables: (&kept()).into(),
         pixels: pixels.collect(),
+        opaque: vec![],
         places: vec![0x35; 4 * places],
         oklab: vec![f32::NAN; 3 * places],
     })
 }
 
+/// A picture in another mode, with so many bytes of opaque pixels.
+fn opaque(case: Case, [shift, reducing]: [u32; 2], bytes: usize) -> Case {
+    let (lent, tables) = (sequence_bytes(bytes, 10), (&own_tables(shift, true)).into());
+    match case {
+        Case::CandidateColorsIn(c) => Case::CandidateColorsIn(Candidates { shift, reducing, opaque: lent, ..c }),
+        Case::QuantizePixels(c) => Case::QuantizePixels(Quantize { shift, reducing, tables, opaque: lent, ..c }),
+        Case::DitherToMode(c) => Case::DitherToMode(ToMode { shift, reducing, tables, opaque: lent, ..c }),
+        other => unreachable!("{} is on no picture", other.call().name()),
+    }
+}
+
+/// Grey and opaque colour: the largest pictures, every grey and as many colours as there
+/// can be, a place and a byte too few.
+fn greys() -> Vec<Case> {
+    let (gb, ngp, sms) = ([6, GREY], [5, GREY], [6, OPAQUE_COLOR]);
+    let most = 4 << 20;
+    vec![
+        opaque(whole_quantize(0, 1024, 1024, 4), gb, most),
+        opaque(whole_quantize(10, 256, 4096, 4), sms, most),
+        opaque(whole_quantize(3, 4096, 256, 8), ngp, most - 1),
+        opaque(whole_to_mode(9, 128, 128, 256, 64), sms, 4 << 14),
+        opaque(whole_to_mode(2, 128, 128, 256, 63), sms, 4 << 14),
+        opaque(whole_to_mode(3, 128, 128, 256, 8), ngp, 4 << 14),
+        opaque(whole_to_mode(10, 128, 128, 4, 4), gb, 4 << 14),
+        opaque(whole_to_mode(0, 1024, 1024, 4, 4), gb, most),
+        opaque(many_candidates(256), gb, 4 << 16),
+        opaque(many_candidates(255), ngp, 4 << 16),
+        opaque(many_candidates(65_536), sms, 4 << 16),
+        opaque(many_candidates(256), gb, 0),
+        opaque(many_candidates(65_536), [4, BY_ALPHA], 4 << 16),
+    ]
+}
+
 /// Cases at the largest bounds, always put to a port before random ones.
 pub fn corners() -> Vec<Case> {
     let [stipple_v, stipple_h] = model::RETIRED;
-    vec![
+    let by_alpha = vec![
         whole_quantize(0, 1024, 1024, 2),
         whole_quantize(3, 4096, 256, 2),
         whole_quantize(10, 256, 4096, 2),
@@ -128,5 +166,6 @@ pub fn corners() -> Vec<Case> {
         whole_quantize(stipple_h, 8, 8, 257),
         whole_to_mode(stipple_h, 128, 128, 256, 512),
         whole_to_mode(stipple_v, 128, 128, 256, 511),
-    ]
+    ];
+    [by_alpha, greys()].concat()
 }

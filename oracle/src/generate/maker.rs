@@ -3,6 +3,7 @@
 
 use crate::cells::LARGEST;
 use crate::hooks::Tables;
+use crate::model::PAIRINGS;
 use crate::rng::Rng;
 
 /// What kind of cases are wanted.
@@ -22,14 +23,23 @@ impl Style {
     pub const DRIVER: Style = Style { finite: false, side: 24, large: true, twins: 3 };
     pub const RECORDER: Style = Style { finite: true, side: 5, large: false, twins: 0 };
     pub const RECORDER_OF_TWINS: Style = Style { twins: 1, ..Style::RECORDER };
+    /// Smaller, since the opaque pixels come on top.
+    pub const RECORDER_OF_GREYS: Style = Style { side: 4, ..Style::RECORDER };
+}
+
+/// How pictures are reduced, where that is given.
+#[derive(Clone, Copy)]
+pub struct Fixed<'a> {
+    pub shift: u32,
+    pub reducing: u32,
+    pub tables: &'a Tables,
 }
 
 /// Makes one case.
 pub(super) struct Maker<'a> {
     pub(super) rng: Rng,
     pub(super) style: Style,
-    /// The shift and the tables of a picture, where they are given.
-    pub(super) fixed: Option<(u32, &'a Tables)>,
+    pub(super) fixed: Option<Fixed<'a>>,
 }
 
 impl Maker<'_> {
@@ -56,7 +66,22 @@ impl Maker<'_> {
 
     pub(super) fn bad_shift(&mut self) -> u32 {
         let random = self.rng.u32() | 8;
-        self.rng.pick(&[0, 1, 2, 6, 7, 8, 16, 259, u32::MAX, 0x8000_0003, random])
+        self.rng.pick(&[0, 1, 2, 7, 8, 16, 259, u32::MAX, 0x8000_0003, random])
+    }
+
+    /// A shift with a reduction that does not go with it: mostly there are modes of the
+    /// one and modes of the other, else none at all of one of the two. The recorded list
+    /// has no numbers of reductions that there are not.
+    pub(super) fn bad_pairing(&mut self) -> [u32; 2] {
+        let [shift, reducing] = self.rng.pick(&PAIRINGS);
+        let random = self.rng.u32() | 4;
+        match self.rng.below(6) {
+            0 => [self.bad_shift(), reducing],
+            1 | 2 if !self.style.finite => {
+                [shift, self.rng.pick(&[3, 4, 255, 256, 257, 258, u32::MAX, 0x8000_0000, 0x8000_0001, random])]
+            }
+            _ => self.rng.pick(&[[3, 1], [3, 2], [4, 1], [4, 2], [5, 2], [6, 0]]),
+        }
     }
 
     pub(super) fn coordinate(&mut self) -> u32 {

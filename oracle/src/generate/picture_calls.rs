@@ -3,7 +3,7 @@
 use super::maker::Maker;
 use super::pictures::Canvas;
 use crate::case::{Candidates, Quantize, ToMode};
-use crate::model;
+use crate::model::{self, BY_ALPHA};
 use crate::original::{Rgba, Settings};
 
 impl Maker<'_> {
@@ -12,19 +12,22 @@ impl Maker<'_> {
         let places = self.places(&canvas);
         let mut case = Candidates {
             shift: canvas.shift,
+            reducing: canvas.reducing,
             width: canvas.width,
             height: canvas.height,
             tables: (&canvas.tables).into(),
             places: self.rng.bytes(4 * places),
             oklab: self.rubbish_floats(3 * places),
             pixels: canvas.pixels,
+            opaque: canvas.opaque,
         };
         for _ in 0..self.faults() {
-            match self.rng.below(5) {
-                0 => case.shift = self.bad_shift(),
+            match self.rng.below(6) {
+                0 => [case.shift, case.reducing] = self.bad_pairing(),
                 1 => [case.width, case.height] = self.bad_size(),
                 2 => self.misfit(&mut case.pixels, 4, 200),
-                3 => self.spoil_tables(&mut case.tables),
+                3 => self.spoil_opaque(&mut case.opaque, &case.pixels),
+                4 => self.spoil_tables(&mut case.tables),
                 _ => self.spoil_rooms(&mut case.places, &mut case.oklab),
             }
         }
@@ -74,6 +77,7 @@ impl Maker<'_> {
         let palette = if self.wants_twins() { self.twin_palette(&canvas) } else { self.palette(&canvas) };
         let mut case = Quantize {
             shift: canvas.shift,
+            reducing: canvas.reducing,
             kind,
             width: canvas.width,
             height: canvas.height,
@@ -83,6 +87,7 @@ impl Maker<'_> {
             out: self.rng.bytes(4 * count),
             cells: self.cells(kind, count),
             pixels: canvas.pixels,
+            opaque: canvas.opaque,
         };
         for _ in 0..self.faults() {
             self.spoil_quantize(&mut case);
@@ -91,8 +96,8 @@ impl Maker<'_> {
     }
 
     fn spoil_quantize(&mut self, case: &mut Quantize) {
-        match self.rng.below(9) {
-            0 => case.shift = self.bad_shift(),
+        match self.rng.below(10) {
+            0 => [case.shift, case.reducing] = self.bad_pairing(),
             1 => case.kind = self.bad_kind(),
             2 => [case.width, case.height] = self.bad_size(),
             3 => self.misfit(&mut case.pixels, 4, 200),
@@ -100,6 +105,7 @@ impl Maker<'_> {
             5 => self.misfit(&mut case.out, 4, 0x78),
             6 => self.misfit(&mut case.cells, 3, 8),
             7 => self.misfit(&mut case.palette, 4, 1),
+            8 => self.spoil_opaque(&mut case.opaque, &case.pixels),
             _ => self.spoil_tables(&mut case.tables),
         }
     }
@@ -121,8 +127,12 @@ impl Maker<'_> {
         self.rng.pick(&[1, 2, 3, 8, 8, 8, 4096, near, near, near])
     }
 
+    /// Mostly a reduced colour of the picture, which is that of the opaque pixel; else
+    /// one of the pixel's own, which is to be hit by none, or any.
     fn zero(&mut self, canvas: &Canvas) -> Rgba {
-        let of_picture: Vec<Rgba> = canvas.reduced().into_iter().collect();
+        let own = canvas.reducing != BY_ALPHA && self.rng.one_in(3);
+        let of_picture = if own { canvas.reduced_pixels() } else { canvas.reduced() };
+        let of_picture: Vec<Rgba> = of_picture.into_iter().collect();
         let random = [self.rng.byte(), self.rng.byte(), self.rng.byte(), self.rng.byte()];
         if of_picture.is_empty() || self.rng.one_in(4) {
             return random;
@@ -146,6 +156,7 @@ impl Maker<'_> {
         let (kind, count, places) = (self.kind(), canvas.count(), self.places(&canvas));
         let mut case = ToMode {
             shift: canvas.shift,
+            reducing: canvas.reducing,
             kind,
             width: canvas.width,
             height: canvas.height,
@@ -160,11 +171,12 @@ impl Maker<'_> {
             out: self.rng.bytes(4 * count),
             cells: self.cells(kind, count),
             pixels: Vec::new(),
+            opaque: Vec::new(),
         };
         if self.rng.one_in(3) && count > 0 && count < 2000 {
             case.limit = self.aimed_limit(&case, &canvas);
         }
-        case.pixels = canvas.pixels;
+        (case.pixels, case.opaque) = (canvas.pixels, canvas.opaque);
         for _ in 0..self.faults() {
             self.spoil_to_mode(&mut case);
         }
@@ -182,13 +194,13 @@ impl Maker<'_> {
             limit: case.limit,
             zero: (case.has_zero != 0).then_some(case.zero),
         };
-        let drawn = model::dither_to_mode(case.shift, &settings, &canvas.tables, &canvas.pixels);
+        let drawn = model::dither_to_mode(canvas.lent(), &settings);
         (drawn.most_colors as u32).saturating_sub(self.rng.below(2) as u32).min(256)
     }
 
     fn spoil_to_mode(&mut self, case: &mut ToMode) {
-        match self.rng.below(11) {
-            0 => case.shift = self.bad_shift(),
+        match self.rng.below(12) {
+            0 => [case.shift, case.reducing] = self.bad_pairing(),
             1 => case.kind = self.bad_kind(),
             2 => [case.width, case.height] = self.bad_size(),
             3 => {
@@ -202,6 +214,7 @@ impl Maker<'_> {
             7 => self.spoil_rooms(&mut case.places, &mut case.oklab),
             8 => case.tile[self.rng.below(2) as usize] = self.rng.pick(&[0, 4097, u32::MAX, 65_537]),
             9 => case.limit = self.rng.pick(&[257, 258, 512, 65_536, u32::MAX]),
+            10 => self.spoil_opaque(&mut case.opaque, &case.pixels),
             _ => self.spoil_tables(&mut case.tables),
         }
     }

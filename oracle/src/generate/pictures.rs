@@ -6,16 +6,18 @@ use std::collections::BTreeSet;
 use super::maker::Maker;
 use crate::case::LentTables;
 use crate::hooks::Tables;
-use crate::model;
-use crate::original::{Rgba, own_tables};
+use crate::model::{self, BY_ALPHA, Lent, PAIRINGS};
+use crate::original::{Rgba, own_opaque, own_tables};
 
 /// What a picture is drawn from, before the call's own parameters.
 pub(super) struct Canvas {
     pub(super) shift: u32,
+    pub(super) reducing: u32,
     pub(super) width: u32,
     pub(super) height: u32,
     pub(super) tables: Tables,
     pub(super) pixels: Vec<u8>,
+    pub(super) opaque: Vec<u8>,
 }
 
 impl Canvas {
@@ -24,9 +26,18 @@ impl Canvas {
         self.pixels.len() / 4
     }
 
+    pub(super) fn lent(&self) -> Lent<'_> {
+        let Canvas { shift, reducing, ref tables, ref pixels, ref opaque, .. } = *self;
+        Lent { shift, reducing, tables, pixels, opaque }
+    }
+
     pub(super) fn reduced(&self) -> BTreeSet<Rgba> {
-        let pixels = self.pixels.chunks_exact(4).map(|p| p.try_into().unwrap());
-        pixels.filter_map(|p| model::reduce(&self.tables, p)).collect()
+        self.lent().colors()
+    }
+
+    /// What a port would find that reduces the pixels in place of the opaque ones.
+    pub(super) fn reduced_pixels(&self) -> BTreeSet<Rgba> {
+        Lent { opaque: &self.pixels, ..self.lent() }.colors()
     }
 }
 
@@ -65,7 +76,7 @@ impl Maker<'_> {
                 let few = [r.byte(), r.byte(), r.byte()];
                 Tables { scale: std::array::from_fn(|_| r.pick(&few)), ..own(shift, false) }
             }
-            5 => own(r.within(3, 5) as u32, r.one_in(2)),
+            5 => own(r.within(3, 6) as u32, r.one_in(2)),
             _ => own(shift, r.one_in(2)),
         }
     }
@@ -107,16 +118,39 @@ impl Maker<'_> {
         pixels
     }
 
+    /// Nearly or just grey, where luma is soon another one.
+    fn near_grey(&mut self) -> [u8; 3] {
+        let r = &mut self.rng;
+        let grey = r.byte();
+        let off = r.pick(&[0, 0, 1, 2]);
+        std::array::from_fn(|_| grey.saturating_add(r.within(0, off) as u8))
+    }
+
+    /// The opaque pixels: what `opaque_threshold` makes of the pixels, the pixels
+    /// themselves, near greys, or anything. The last two have any alpha, as no call
+    /// looks at it.
+    fn opaque(&mut self, pixels: &[u8]) -> Vec<u8> {
+        let near_greys = match self.rng.below(5) {
+            0 => return own_opaque(pixels),
+            1 => return pixels.to_vec(),
+            style => style < 4,
+        };
+        let mut opaque = Vec::with_capacity(pixels.len());
+        for _ in 0..pixels.len() / 4 {
+            opaque.extend(if near_greys { self.near_grey() } else { self.rgb() });
+            opaque.push(self.rng.byte());
+        }
+        opaque
+    }
+
     pub(super) fn canvas(&mut self) -> Canvas {
         let [width, height] = self.size();
-        let random = self.rng.within(3, 5) as u32;
-        let (shift, tables) = match self.fixed {
-            Some((shift, tables)) => (shift, tables.clone()),
-            None => (random, self.tables(random)),
-        };
+        let [shift, reducing] = self.fixed.map_or_else(|| self.rng.pick(&PAIRINGS), |f| [f.shift, f.reducing]);
+        let tables = self.fixed.map_or_else(|| self.tables(shift), |f| f.tables.clone());
         let lent = u64::from(width) * u64::from(height) <= 10_000;
         let pixels = if lent { self.pixels(width, height) } else { Vec::new() };
-        Canvas { shift, width, height, tables, pixels }
+        let opaque = if reducing == BY_ALPHA { Vec::new() } else { self.opaque(&pixels) };
+        Canvas { shift, reducing, width, height, tables, pixels, opaque }
     }
 
     pub(super) fn cells(&mut self, kind: u32, count: usize) -> Vec<i16> {
@@ -149,6 +183,16 @@ impl Maker<'_> {
             self.misfit(places, 4, 0x66);
         } else {
             self.misfit(oklab, 3, 0.5);
+        }
+    }
+
+    /// Opaque pixels more or fewer than fit, or none where some are asked for, or as many
+    /// as pixels where none are.
+    pub(super) fn spoil_opaque(&mut self, opaque: &mut Vec<u8>, pixels: &[u8]) {
+        match opaque.is_empty() {
+            _ if self.rng.one_in(2) => self.misfit(opaque, 4, 0x67),
+            true => *opaque = pixels.to_vec(),
+            false => opaque.clear(),
         }
     }
 

@@ -24,7 +24,7 @@ impl Maker<'_> {
     }
 
     pub(super) fn bracket_width(&mut self) -> Case {
-        let shift = if self.rng.one_in(8) { self.bad_shift() } else { self.rng.within(3, 5) as u32 };
+        let shift = if self.rng.one_in(8) { self.bad_shift() } else { self.rng.within(3, 6) as u32 };
         let power = 1u64 << self.rng.below(64);
         let max = match self.rng.below(4) {
             0 => power.wrapping_add(self.rng.below(5)).wrapping_sub(2),

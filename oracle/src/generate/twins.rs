@@ -59,7 +59,7 @@ impl Maker<'_> {
     /// made from reduced colours, so that equal ones are alike.
     fn few_records(&mut self, few: u64, color: [u8; 3]) -> Vec<Entry> {
         let style = self.rng.below(8);
-        let shift = self.rng.within(3, 5) as u32;
+        let shift = self.rng.within(3, 6) as u32;
         let tables = own_tables(shift, false);
         let mut record = || {
             if style >= 4 {

@@ -3,6 +3,7 @@
 use std::collections::BTreeSet;
 
 use super::choose::rgba;
+use super::reduce::Reduced;
 use super::slip::{Mock, Slip};
 use crate::case::ToMode;
 use crate::model::{self, Entry};
@@ -15,7 +16,7 @@ pub(super) struct Drawing<'a> {
     pub(super) size: [usize; 2],
     pub(super) origin: [u32; 2],
     pub(super) zero: Option<Rgba>,
-    pub(super) read: Read<'a>,
+    pub(super) from: Reduced<'a>,
     pub(super) candidates: Vec<Entry>,
     pub(super) width: u64,
 }
@@ -26,21 +27,15 @@ pub(super) type Chosen = Option<(Rgba, bool)>;
 
 impl Drawing<'_> {
     fn pixel(&self, i: usize) -> Rgba {
-        rgba(self.read.pixels, i)
+        rgba(self.from.read.pixels, i)
     }
 
     pub(super) fn normalized(&self, color: Rgba) -> Rgba {
-        color.map(|v| self.read.scale[usize::from(v)])
+        color.map(|v| self.from.read.scale[usize::from(v)])
     }
 }
 
 impl Mock {
-    fn reduce(&self, read: Read, pixel: Rgba) -> Option<Rgba> {
-        let least = if self.has_slip(Slip::Alpha127Opaque) { 127 } else { 128 };
-        let [r, g, b] = model::rgb(pixel).map(|v| read.reduction[usize::from(v)]);
-        (pixel[3] >= least).then_some([r, g, b, 255])
-    }
-
     pub(super) fn entry(&self, read: Read, reduced: Rgba) -> Entry {
         let normalized = reduced.map(|v| read.scale[usize::from(v)]);
         Entry { reduced, normalized, oklab: self.convert(model::rgb(normalized)) }
@@ -108,7 +103,7 @@ impl Mock {
     }
 
     fn diffuse_pixel(&self, drawing: &Drawing, cells: &mut [i16], i: usize) -> Rgba {
-        let pixel = drawing.pixel(i);
+        let pixel = self.dithered(drawing, i);
         let sum: [i32; 3] = std::array::from_fn(|k| 16 * i32::from(pixel[k]) + self.added(cells[3 * i + k]));
         let biased = sum.map(|v| self.to_byte(v));
         let chosen = self.nearest_entry(drawing, biased);
@@ -129,8 +124,14 @@ impl Mock {
         drawing.candidates[at]
     }
 
+    /// The pixel whose colour is dithered.
+    fn dithered(&self, drawing: &Drawing, i: usize) -> Rgba {
+        let opaque = self.has_slip(Slip::OpaqueDithered) && drawing.from.reducing != model::BY_ALPHA;
+        if opaque { drawing.from.opaque(i) } else { drawing.pixel(i) }
+    }
+
     fn dither_pixel(&self, drawing: &Drawing, cells: &mut [i16], i: usize) -> Rgba {
-        let color = model::rgb(drawing.pixel(i));
+        let color = model::rgb(self.dithered(drawing, i));
         if model::is_diffusion(drawing.kind) {
             return self.diffuse_pixel(drawing, cells, i);
         }
@@ -150,8 +151,8 @@ impl Mock {
     }
 
     fn draw_pixel(&self, drawing: &Drawing, cells: &mut [i16], i: usize) -> Chosen {
-        let reduced = self.reduce(drawing.read, drawing.pixel(i));
-        let kept = reduced.is_none_or(|c| self.is_zero(drawing, c));
+        let reduced = self.reduce(drawing.from, i);
+        let kept = reduced.is_none_or(|c| self.is_zero(drawing, self.asked_for_zero(drawing.from, i, c)));
         if kept && self.has_slip(Slip::SkippedPassesCellOn) && !cells.is_empty() {
             let cell = std::array::from_fn(|k| cells[3 * i + k].into());
             self.scatter(drawing, cells, i, cell);
@@ -222,10 +223,10 @@ impl Mock {
 
     /// Puts the candidates into their rooms: how many, or none where they do
     /// not fit.
-    pub(super) fn collect(&self, read: Read, places: &mut [u8], oklab: &mut [f32]) -> Option<Vec<Entry>> {
-        let pixels = 0..read.pixels.len() / 4;
-        let reduced: BTreeSet<Rgba> = pixels.filter_map(|i| self.reduce(read, rgba(read.pixels, i))).collect();
-        let entries: Vec<Entry> = reduced.into_iter().map(|c| self.entry(read, c)).collect();
+    pub(super) fn collect(&self, from: Reduced, places: &mut [u8], oklab: &mut [f32]) -> Option<Vec<Entry>> {
+        let pixels = 0..from.read.pixels.len() / 4;
+        let reduced: BTreeSet<Rgba> = pixels.filter_map(|i| self.reduce(from, i)).collect();
+        let entries: Vec<Entry> = reduced.into_iter().map(|c| self.entry(from.read, c)).collect();
         if 4 * entries.len() > places.len() {
             self.refuse_with_seven(places, oklab);
             return None;
@@ -249,7 +250,7 @@ impl Mock {
             }
         }
         let mut equal =
-            drawing.read.palette.chunks_exact(4).enumerate().filter(|(_, e)| **e == color).map(|(i, _)| i as u8);
+            drawing.from.read.palette.chunks_exact(4).enumerate().filter(|(_, e)| **e == color).map(|(i, _)| i as u8);
         let index = if self.has_slip(Slip::IndexOfLaterDuplicate) { equal.last() } else { equal.next() };
         // A wrong program may choose a colour that is no entry.
         index.unwrap_or(0)

@@ -5,7 +5,7 @@ use std::cmp::Reverse;
 
 use super::slip::{Mock, Slip};
 use crate::case::{Quantize, ToMode};
-use crate::model::{self, is_retired};
+use crate::model::{self, BY_ALPHA, GREY, OPAQUE_COLOR, is_retired};
 use crate::port::{Lists, Read, Rooms};
 
 impl Mock {
@@ -37,6 +37,52 @@ impl Mock {
             _ => false,
         };
         is_retired(kind) && !drawn
+    }
+
+    /// The reduction by which a number is drawn: its own, save with slips that read it
+    /// otherwise or take what is none for one.
+    pub(super) fn reducing_of(&self, number: u32) -> u32 {
+        match self.slip {
+            Some(Slip::ReductionReadAsByte) => number & 255,
+            Some(Slip::UnknownReductionByAlpha) if number > OPAQUE_COLOR => BY_ALPHA,
+            _ => number,
+        }
+    }
+
+    /// Whether no mode of the shift reduces so.
+    pub(super) fn unpaired(&self, shift: u32, reducing: u32) -> bool {
+        let too_many = match self.slip {
+            Some(Slip::GreyWithShiftFour) => Some((4, GREY)),
+            Some(Slip::OpaqueColorWithShiftFive) => Some((5, OPAQUE_COLOR)),
+            Some(Slip::ByAlphaWithShiftSix) => Some((6, BY_ALPHA)),
+            _ => None,
+        };
+        let pair = (shift, self.reducing_of(reducing));
+        too_many != Some(pair) && !matches!(pair, (3..6, BY_ALPHA) | (5..7, GREY) | (6, OPAQUE_COLOR))
+    }
+
+    /// The first tests of a call on pictures that takes a kind: 1, for either reason, and 15
+    /// after it.
+    fn kind_tests(&self, kind: u32, shift: u32, reducing: u32) -> [(bool, u32); 3] {
+        let (unknown, unpaired) = ((self.unknown(kind), 1), (self.unpaired(shift, reducing), 1));
+        let retired = (self.retired(kind), 15);
+        if self.has_slip(Slip::PairingAfterFifteen) {
+            [unknown, retired, unpaired]
+        } else {
+            [unknown, unpaired, retired]
+        }
+    }
+
+    /// Whether so many bytes of opaque pixels are those of a picture of so many pixels.
+    pub(super) fn opaque_fits(&self, lent: usize, reducing: u32, count: usize) -> bool {
+        let by_alpha = self.reducing_of(reducing) == BY_ALPHA;
+        match self.slip {
+            Some(Slip::OpaqueLengthUnasked) => true,
+            Some(Slip::MoreOpaqueAccepted) if !by_alpha => lent >= 4 * count,
+            Some(Slip::OpaqueByAlphaAccepted) if by_alpha => true,
+            Some(Slip::OpaqueByAlphaWanted) => lent == 4 * count,
+            _ => lent == if by_alpha { 0 } else { 4 * count },
+        }
     }
 
     /// Whether results are written for this number.
@@ -83,12 +129,15 @@ impl Mock {
         let fit = read.reduction.len() == 256
             && read.scale.len() == 256
             && read.pixels.len() == 4 * count
+            && self.opaque_fits(read.opaque.len(), case.reducing, count)
             && read.palette.len() % 4 == 0
             && [indices, out] == [count, 4 * count]
             && self.cells_fit(cells, case.kind, count);
+        let [first, second, third] = self.kind_tests(case.kind, case.shift, case.reducing);
         self.say(&[
-            (self.unknown(case.kind) || case.shift < 3 || case.shift > 5, 1),
-            (self.retired(case.kind), 15),
+            first,
+            second,
+            third,
             (self.size_wrong(case.width, case.height), 2),
             (!fit, 3),
             (read.palette.len() < 4 || read.palette.len() / 4 > 256, 4),
@@ -100,13 +149,16 @@ impl Mock {
         let fit = read.reduction.len() == 256
             && read.scale.len() == 256
             && read.pixels.len() == 4 * count
+            && self.opaque_fits(read.opaque.len(), case.reducing, count)
             && rooms.out.len() == 4 * count
             && self.cells_fit(rooms.cells.len(), case.kind, count)
             && self.rooms_fit(rooms.places, rooms.oklab);
         let sides = case.tile.iter().all(|&side| side > 0 && side <= 4096);
+        let [first, second, third] = self.kind_tests(case.kind, case.shift, case.reducing);
         self.say(&[
-            (self.unknown(case.kind) || case.shift < 3 || case.shift > 5, 1),
-            (self.retired(case.kind), 15),
+            first,
+            second,
+            third,
             (self.size_wrong(case.width, case.height) || self.origin_wrong(case), 2),
             (!fit, 3),
             (!sides || case.limit > 256, 5),

@@ -5,8 +5,8 @@
 use super::{Quota, sample};
 use crate::case::{Call, Case, List, Lookup, Quantize, Value};
 use crate::examples;
-use crate::generate::{Style, case_with};
-use crate::model::{self, DRAWN, Entry};
+use crate::generate::{Fixed, Style, case_with};
+use crate::model::{self, BY_ALPHA, DRAWN, Entry};
 use crate::original::{Rgba, own_tables};
 use crate::reference::expected;
 use crate::rng::Rng;
@@ -65,7 +65,8 @@ fn takes_a_later_entry(case: &Case) -> bool {
 /// A small random picture of the kind.
 fn small(kind: u32, seed: u64) -> Case {
     let tables = own_tables(3, false);
-    let random = |turn| case_with(Call::QuantizePixels, seed, turn, Style::RECORDER_OF_TWINS, Some((3, &tables)));
+    let fixed = Some(Fixed { shift: 3, reducing: BY_ALPHA, tables: &tables });
+    let random = |turn| case_with(Call::QuantizePixels, seed, turn, Style::RECORDER_OF_TWINS, fixed);
     (0..).map(random).find(|case| case.kind() == Some(kind) && takes_a_later_entry(case)).unwrap()
 }
 

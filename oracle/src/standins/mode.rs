@@ -1,6 +1,5 @@
 // Stand-in for the original's list of modes, whose text we do not have. All
-// sixteen are named, since the original matches on them; the port covers those
-// with shift 3, 4 and 5 that have a transparent colour.
+// sixteen are named, since the original matches on them; the port covers each.
 
 #[derive(Debug, Clone, Copy, PartialEq, Eq, Hash)]
 pub enum Mode {

@@ -19,21 +19,30 @@ pub const ODD: f32 = 7.25;
 /// No cell can be this far from 0 after a call that accepts.
 pub const STRAY: i16 = -4370;
 
-/// The tables of five bits a channel.
-pub struct FiveBits {
+/// The two tables of a mode.
+pub struct ModeTables {
     pub reduction: [u8; 256],
     pub scale: [u8; 256],
 }
 
-pub fn five_bits() -> FiveBits {
+/// The tables of five bits a channel.
+pub fn five_bits() -> ModeTables {
     let byte = |i: usize| i as u8;
-    FiveBits {
+    ModeTables {
         reduction: std::array::from_fn(|i| byte(i) >> 3),
         scale: std::array::from_fn(|i| byte(i) << 3 | byte(i) >> 2),
     }
 }
 
-impl FiveBits {
+/// The tables of two bits a channel.
+pub fn two_bits() -> ModeTables {
+    ModeTables {
+        reduction: std::array::from_fn(|i| (i >> 6) as u8),
+        scale: std::array::from_fn(|i| (i << 6 | i << 4 | i << 2 | i) as u8),
+    }
+}
+
+impl ModeTables {
     pub fn tables(&self) -> Tables<'_> {
         Tables { reduction: &self.reduction, scale: &self.scale }
     }
@@ -43,7 +52,7 @@ pub fn grey(level: u8) -> [u8; 4] {
     [level, level, level, 255]
 }
 
-/// An opaque picture in one row.
+/// A picture in one row.
 pub fn row(pixels: &[u8]) -> Picture<'_> {
     Picture { width: (pixels.len() / 4) as u32, height: 1, pixels }
 }
@@ -74,6 +83,12 @@ impl Lent {
         Rooms { places: &mut self.places, oklab: &mut self.oklab }
     }
 
+    /// The candidates, by alpha.
+    pub fn candidates(&mut self, shift: u32, picture: Picture, tables: Tables) -> Result<usize, Refusal> {
+        candidate_colors_in(shift, Reducing::ByAlpha, picture, tables, self.rooms())
+    }
+
+    /// The palette's pass, by alpha.
     pub fn quantize(
         &mut self,
         shift: u32,
@@ -82,8 +97,19 @@ impl Lent {
         tables: Tables,
         palette: &[u8],
     ) -> Result<(), Refusal> {
+        self.quantize_by((shift, Reducing::ByAlpha), kind, picture, tables, palette)
+    }
+
+    pub fn quantize_by(
+        &mut self,
+        (shift, reducing): (u32, Reducing),
+        kind: u32,
+        picture: Picture,
+        tables: Tables,
+        palette: &[u8],
+    ) -> Result<(), Refusal> {
         let output = Output { out: &mut self.out, cells: &mut self.cells };
-        quantize_pixels(shift, kind, picture, tables, palette, &mut self.indices, output)
+        quantize_pixels(shift, reducing, kind, picture, tables, palette, &mut self.indices, output)
     }
 
     pub fn dither(&mut self, settings: Settings, picture: Picture, tables: Tables) -> Result<usize, Refusal> {
@@ -92,7 +118,8 @@ impl Lent {
     }
 }
 
-/// Shift 3, tiles of 8x8, the largest limit.
-pub fn settings(kind: u32) -> Settings {
-    Settings { shift: 3, kind, origin: [0, 0], tile: [8, 8], limit: 256, color_zero: None }
+/// By alpha with shift 3, tiles of 8x8, the largest limit.
+pub fn settings(kind: u32) -> Settings<'static> {
+    let (shift, reducing) = (3, Reducing::ByAlpha);
+    Settings { shift, reducing, kind, origin: [0, 0], tile: [8, 8], limit: 256, color_zero: None }
 }

@@ -13,11 +13,11 @@ use Rattle.dither.proofs.choose.Tie as tie
 
 -- what was asked for, and lent
 abbrev asked : tie.Start → Commission
-asked s = let a = s .args in commission (a .s) (a .reduction .now) (a .scale .now) (a .pixels .now)
+asked s = let a = s .args in commission (a .s) (a .reduction .now) (a .scale .now) (a .pixels .now) (a .opaque .now)
 
 -- where the drawing is called
 abbrev start : tie.After-draw-arg2 → tie.Start
-start c = c .before .before .before .before .before .before .before .before .before .before .before .before .before
+start c = c .before .before .before .before .before .before .before .before .before .before .before .before .before .before
 
 -- the picture that is drawn is the one that is promised
 same : (c : tie.After-draw-arg2)
@@ -52,7 +52,7 @@ draw-requires : tie.Need-draw-requires
 draw-requires c κs =
     let s = start c in
     let f = s .pre .1 in
-    let read = c .before .before .before .before .before .before .before .before .before .before .before in
+    let read = c .before .before .before .before .before .before .before .before .before .before .before .before in
     let reduces : (k : ℕ) → getD (s .args .reduction .now) k 0 < 256 = λ k. omega (arith, read .before .shared-slice-known .given k) in
     let scales : (k : ℕ) → getD (s .args .scale .now) k 0 < 256 = λ k. omega (arith, read .shared-slice-known2 .given k) in
     (s .pre .0, ready (asked s) (s .pre .2) f (c .before .before .before .before .before .width-of .result) reduces scales, f .out-long, f .cells-long)

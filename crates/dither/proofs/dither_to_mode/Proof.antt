@@ -1,10 +1,17 @@
 -- `dither::dither_to_mode` meets its contract: a check refuses before any store, the candidates are too many, or the picture is dithered.
 -- Assumes nothing.
-use mathlib.Core.Path.{_≡_, sym, _∙_}
+use mathlib.Core.Path.{_≡_, sym, ap, _∙_, subst}
+use mathlib.Core.List.{List}
+use Prim.Native.Nat.{ℕ}
 use native.Mathlib.Omega.{arith}
 use Rattle.replies.specs.Replies.{firstReply}
+use lib.ListN.{length}
+use Rattle.picture.specs.Pixels.{reducedBy}
+use Rattle.picture.proofs.BoundLaws.{basis-long}
+use Rattle.candidates.specs.Candidates.{candidatesOf}
+use Rattle.candidates.specs.Rooms.{Collects}
 use Rattle.candidates.proofs.RoomLaws.{count-within}
-use Rattle.dither.specs.Mode.{Commission, Buffers, commission, buffers, candidateList, lengthsOf, checks}
+use Rattle.dither.specs.Mode.{Commission, Buffers, commission, buffers, size, candidateList, lengthsOf, checks}
 use Rattle.dither.proofs.NumberLaws.{accepted, room}
 use Rattle.dither.proofs.CandidateLaws.{collected, uncollected, roomed}
 use Rattle.dither.proofs.CallLaws.{call-refused, call-full, call-completed}
@@ -14,21 +21,21 @@ use Rattle.dither.proofs.dither_to_mode.Tie as tie
 
 -- what was asked for, and lent to be read; and what was lent to be written
 abbrev asked : tie.Start → Commission
-asked s = let a = s .args in commission (a .settings) (a .reduction .now) (a .scale .now) (a .pixels .now)
+asked s = let a = s .args in commission (a .settings) (a .reduction .now) (a .scale .now) (a .pixels .now) (a .opaque .now)
 
 abbrev held : tie.Start → Buffers
 held s = let a = s .args in buffers (a .places .now) (a .oklab .now) (a .out .now) (a .cells .now)
 
 -- where the checks are passed
 abbrev start : tie.Else1 → tie.Start
-start c = c .before .before .before .before .before .before .before .before
+start c = c .before .before .before .before .before .before .before .before .before
 
 refusal-requires : tie.Need-refusal-requires
 refusal-requires c κs = search needs
 
 returns : tie.Need-returns
 returns c =
-    let s = c .before .before .before .before .before .before .before .before in
+    let s = c .before .before .before .before .before .before .before .before .before in
     call-refused (asked s) (held s) (c .before .refusal .ensures) (c .if1 .taken)
 
 -- past the checks no number is given
@@ -50,12 +57,33 @@ mul-size c =
 linear-table-requires : tie.Need-linear-table-requires
 linear-table-requires c κs = search needs
 
+basis-requires : tie.Need-basis-requires
+basis-requires c κs = search needs
+
 collect-candidates-requires : tie.Need-collect-candidates-requires
 collect-candidates-requires c κs =
-    let e = c .before .before .before .before .before .before in
-    let w = accepted (asked (start e)) (held (start e)) (free e) in
-    let r = room (asked (start e)) (held (start e)) (free e) in
-    (c .before .before .before .linear-table .ensures, w .reduction, w .scale, omega (arith, w .pixels), omega (arith, r .1))
+    let b = c .before .before .before in
+    let e = b .before .before .before .before in
+    let q = asked (start e) in
+    let w = accepted q (held (start e)) (free e) in
+    let r = room q (held (start e)) (free e) in
+    let long = ap length (b .basis .ensures) ∙ basis-long (q .settings .reducing) (q .pixels) (q .opaque) (size q) (w .pixels) (w .opaque) in
+    (b .before .linear-table .ensures, w .reduction, w .scale, omega (arith, long), omega (arith, r .1))
+
+-- where the candidates are collected: what is collected of the pixels that reduce is the picture's
+abbrev passed : tie.After-collect-candidates → tie.Else1
+passed c = c .before .before .before .before .before .before .before .before
+
+gathered : (c : tie.After-collect-candidates)
+    → let q = asked (start (passed c)) in let b = held (start (passed c)) in
+    Collects (candidateList q) (q .scale) (b .places) (b .oklab) (c .collect-candidates .result) (c .collect-candidates .last .1 .1 .1 .1 .1 .1 .0)
+    (c .collect-candidates .last .1 .1 .1 .1 .1 .1 .1 .0)
+gathered c =
+    let q = asked (start (passed c)) in
+    let b = held (start (passed c)) in
+    subst (λ (l : List ℕ). Collects (candidatesOf (reducedBy (q .settings .reducing) (q .reduction) l) (size q)) (q .scale) (b .places) (b .oklab)
+    (c .collect-candidates .result) (c .collect-candidates .last .1 .1 .1 .1 .1 .1 .0) (c .collect-candidates .last .1 .1 .1 .1 .1 .1 .1 .0))
+    (c .before .before .before .before .basis .ensures) (c .collect-candidates .ensures)
 
 enum-known-count : tie.Need-enum-known-count
 enum-known-count c = search needs
@@ -71,19 +99,21 @@ same-length-2 c = search needs
 
 returns-2 : tie.Need-returns-2
 returns-2 c =
-    let e = c .before .before .before .before .before .before .before .before .before .before .before .before .before in
+    let a = c .before .before .before .before .before .before in
+    let e = passed a in
     let s = start e in
-    let u = uncollected (c .before .before .before .before .before .before .collect-candidates .ensures) (c .enum-told .given .1) in
+    let u = uncollected (gathered a) (c .enum-told .given .1) in
     call-full (asked s) (held s) (free e) (u .0) (u .1) (u .2)
 
 dither-requires : tie.Need-dither-requires
 dither-requires c κs =
-    let k = c .before .before .before .before .before .before .before .before .before .before .before .before .collect-candidates .ensures in
+    let a = c .before .before .before .before .before .before .before .before .before .before .before .before in
+    let k = gathered a in
     let n = c .before .before .before .before .before .before .count .given .1 in
-    let e = c .before .before .before .before .before .before .before .before .before .before .before .before .before .before .before .before .before .before .before in
+    let e = passed a in
     let s = start e in
     let r = room (asked s) (held s) (free e) in (
-      record { is = c .before .before .before .before .before .before .before .before .before .before .before .before .before .before .before .before .linear-table .ensures },
+      record { is = a .before .before .before .before .before .linear-table .ensures },
       accepted (asked s) (held s) (free e),
       roomed (asked s) k n (r .1),
       omega (arith, r .0, count-within {cs = candidateList (asked s)} k n),
@@ -105,10 +135,10 @@ returns-3 : tie.Need-returns-3
 returns-3 c =
     let d = c .before .before .before in
     let a = d .before in
-    let e = a .before .before .before .before .before .before .before .before .before .before .before .before .before .before .before .before .before .before .before in
+    let p = a .before .before .before .before .before .before .before .before .before .before .before .before in
+    let e = passed p in
     let s = start e in
-    let k = a .before .before .before .before .before .before .before .before .before .before .before .before .collect-candidates .ensures in
-    let u = collected k _ (a .before .before .before .before .before .before .count .given .1) in
+    let u = collected (gathered p) _ (a .before .before .before .before .before .before .count .given .1) in
     call-completed (asked s) (held s) (free e) (u .0) (u .2) (u .3) (d .dither .ensures)
 
 pub dither-to-mode-spec : {M : Type 1} → statement M
@@ -121,6 +151,7 @@ dither-to-mode-spec =
     cast-size-2
     mul-size
     linear-table-requires
+    basis-requires
     collect-candidates-requires
     enum-known-count
     enum-told

@@ -4,7 +4,7 @@ use mathlib.Core.Bool.{false, not, _||_}
 use Prim.Native.Nat.{_*_, _≤_}
 use native.Mathlib.Omega.{arith}
 use Rattle.patterns.specs.Kinds.{isKind, isRetired}
-use Rattle.mixing.specs.Widths.{isShift}
+use Rattle.reducing.specs.Reduce.{isPairing}
 use Rattle.dither.specs.Mode.{boundsWrong, lengthsWrong}
 use Rattle.dither.proofs.NumberLaws.{bounded}
 use borrow.Author.Needs.{needs}
@@ -14,8 +14,8 @@ use Rattle.dither.proofs.refusal.Tie as tie
 is-kind-requires : tie.Need-is-kind-requires
 is-kind-requires c κs = search needs
 
-is-shift-requires : tie.Need-is-shift-requires
-is-shift-requires c κs = search needs
+is-pairing-requires : tie.Need-is-pairing-requires
+is-pairing-requires c κs = search needs
 
 is-retired-requires : tie.Need-is-retired-requires
 is-retired-requires c κs = search needs
@@ -28,7 +28,7 @@ returns : tie.Need-returns
 returns c =
     let a = c .before in
     let r = a .before in
-    rw (← r .before .before .is-kind .ensures, ← r .before .is-shift .ensures, ← r .is-retired .ensures, ← a .bounds-wrong .ensures, c .if1 .taken)
+    rw (← r .before .before .is-kind .ensures, ← r .before .is-pairing .ensures, ← r .is-retired .ensures, ← a .bounds-wrong .ensures, c .if1 .taken)
 
 returns-2 : tie.Need-returns-2
 returns-2 c =
@@ -36,7 +36,7 @@ returns-2 c =
     let r = a .before in
     rw (
       ← r .before .before .is-kind .ensures,
-      ← r .before .is-shift .ensures,
+      ← r .before .is-pairing .ensures,
       ← r .is-retired .ensures,
       ← a .bounds-wrong .ensures,
       c .before .if1 .left,
@@ -49,7 +49,7 @@ returns-3 c =
     let r = a .before in
     rw (
       ← r .before .before .is-kind .ensures,
-      ← r .before .is-shift .ensures,
+      ← r .before .is-pairing .ensures,
       ← r .is-retired .ensures,
       ← a .bounds-wrong .ensures,
       c .before .before .if1 .left,
@@ -64,10 +64,10 @@ asked c = c .before .before .before
 abbrev start : tie.Else3 → tie.Start
 start c = asked c .before .before .before .before
 
-mode-right : (c : tie.Else3) → not (isKind (start c .args .s .kind)) || not (isShift (start c .args .s .shift)) ≡ false
+mode-right : (c : tie.Else3) → not (isKind (start c .args .s .kind)) || not (isPairing (start c .args .s .reducing) (start c .args .s .shift)) ≡ false
 mode-right c =
     let s = asked c .before .before in
-    (λ i. not (sym (s .before .is-kind .ensures) i) || not (sym (s .is-shift .ensures) i)) ∙ c .before .before .if1 .left
+    (λ i. not (sym (s .before .is-kind .ensures) i) || not (sym (s .is-pairing .ensures) i)) ∙ c .before .before .if1 .left
 
 drawn : (c : tie.Else3) → isRetired (start c .args .s .kind) ≡ false
 drawn c = sym (asked c .before .is-retired .ensures) ∙ c .before .if2 .left
@@ -79,7 +79,7 @@ small : (c : tie.Else3) → start c .args .s .width * start c .args .s .height �
 small c = bounded _ (bounds-right c)
 
 lengths-right : (c : tie.Else4) → let a = start (c .before .before .before .before) .args in
-    lengthsWrong (a .s .kind) (a .s .width * a .s .height) (a .lengths) ≡ false
+    lengthsWrong (a .s .reducing) (a .s .kind) (a .s .width * a .s .height) (a .lengths) ≡ false
 lengths-right c = sym (c .before .lengths-wrong .ensures) ∙ c .if4 .left
 
 cast-size : tie.Need-cast-size
@@ -119,7 +119,7 @@ refusal-spec =
     tie.close
     (tie.spec
     is-kind-requires
-    is-shift-requires
+    is-pairing-requires
     is-retired-requires
     bounds-wrong-requires
     returns

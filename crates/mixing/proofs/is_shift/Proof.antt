@@ -1,4 +1,4 @@
--- `mixing::is_shift` meets its contract: its three tests are the definition's. Assumes nothing.
+-- `mixing::is_shift` meets its contract: its tests are the definition's. Assumes nothing.
 use mathlib.Core.Path.{refl}
 use Rattle.mixing.specs.Widths.{isShift}
 use Rattle.mixing.proofs.is_shift.Statement.{statement}

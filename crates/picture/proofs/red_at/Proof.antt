@@ -1,4 +1,5 @@
--- `picture::red_at` meets its contract: the lent red through the table, which is that of the reduced colour where the pixel is seen. Assumes nothing.
+-- `picture::red_at` meets its contract: the lent red through the table, which is that of the reduced colour where the pixel is seen and its channels are kept.
+-- Assumes nothing.
 use mathlib.Core.Path.{ap, _∙_}
 use lib.ListN.{getD}
 use borrow.Author.Needs.{needs}
@@ -17,8 +18,8 @@ returns : tie.Need-returns
 returns c =
     let s = c .before in
     let a = s .before .before .before .args in
-    λ seen. c .looked-up .ensures ∙ ap (λ (x : NormalizedColor). getD (a .reduction .now) (x .0 .r) 0) (s .source-at .ensures)
-    ∙ seen-red (a .reduction .now) (a .pixels .now) (a .i) seen
+    λ by kept seen. c .looked-up .ensures ∙ ap (λ (x : NormalizedColor). getD (a .reduction .now) (x .0 .r) 0) (s .source-at .ensures)
+    ∙ seen-red by (a .reduction .now) (a .basis .now) (a .i) kept seen
 
 pub red-at-spec : {M : Type 1} → statement M
 red-at-spec = tie.close (tie.spec source-at-requires looked-up-requires returns)

@@ -7,12 +7,13 @@ use lib.ListN.{length, getD, take}
 use Rattle.color.specs.Color.{reducedAt}
 use Rattle.conversion.proofs.ListLaws.{list-long, list-front}
 use Rattle.shortlist.specs.Candidates.{RangedList}
+use Rattle.mixing.specs.Widths.{widthOf}
 use Rattle.drawing.specs.declared.ColorZero.the-variants.{Absent}
 use Rattle.drawing.specs.Drawing.{Drawing}
 use Rattle.drawing.specs.Lent.{drawingOf, reducedBytes, cellsAfter}
 use Rattle.drawing.specs.Positions.{PositionsAfter}
 use Rattle.drawing.proofs.CandidateLaws.{list-fit}
-use Rattle.drawing.proofs.FinishedLaws.{finished-all}
+use Rattle.drawing.proofs.FinishedLaws.{finished-lent}
 use Rattle.quantize.specs.Quantize.{Commission, commission, entries, paletteOklab, dithererOf, lentOf, quantizing}
 use Rattle.quantize.proofs.DrawnLaws.{palette-alike, positions-are, ready, finishable}
 use borrow.Author.Needs.{needs}
@@ -23,11 +24,11 @@ use Rattle.quantize.proofs.quantize.Tie as tie
 abbrev asked : tie.Start → Commission
 asked s =
     let a = s .args in
-    commission (a .shift) (a .kind) (a .width) (a .height) (a .reduction .now) (a .scale .now) (a .palette .now) (a .pixels .now)
+    commission (a .shift) (a .reducing) (a .kind) (a .width) (a .height) (a .reduction .now) (a .scale .now) (a .palette .now) (a .pixels .now) (a .opaque .now)
 
 -- where the palette's Oklab is made, and the room's front is that
 abbrev began : tie.After-put-list-oklab → tie.Start
-began c = c .before .before .before .before .before .before .before .before .before .before .before
+began c = c .before .before .before .before .before .before .before .before .before .before .before .before
 
 front : (c : tie.After-put-list-oklab)
     → let q = asked (began c) in take (3 * entries q) (c .put-list-oklab .last .1 .1 .1 .1 .0) ≡ paletteOklab q
@@ -38,7 +39,7 @@ front c =
 fit : (c : tie.After-put-list-oklab) → let q = asked (began c) in RangedList (paletteOklab q) (entries q)
 fit c =
     let q = asked (began c) in
-    let read = c .before .before .before .before .before .before .before .before .before in
+    let read = c .before .before .before .before .before .before .before .before .before .before in
     let bytes : (k : ℕ) → getD (q .scale) k 0 < 256 = λ k. omega (arith, read .shared-slice-known2 .given k) in
     list-fit (q .scale) (reducedAt (q .palette)) (entries q) bytes
 
@@ -55,7 +56,7 @@ same-picture c =
     let q = asked (began (listed c)) in
     λ t. drawingOf (dithererOf q (c .before .before .before .before .before .width-of .ensures t)) Absent (lentOf q (front (listed c) t))
 
-drawn-over : (c : tie.After-draw) → c .draw .last .1 .1 .1 .1 .1 .1 .1 .1 .1 .1 .0 ≡ reducedBytes (quantizing (asked (began (listed (c .before)))))
+drawn-over : (c : tie.After-draw) → c .draw .last .1 .1 .1 .1 .1 .1 .1 .1 .1 .1 .1 .1 .0 ≡ reducedBytes (quantizing (asked (began (listed (c .before)))))
 drawn-over c = c .draw .ensures .0 ∙ ap reducedBytes (same-picture (c .before))
 
 mul-size : tie.Need-mul-size
@@ -93,9 +94,12 @@ draw-requires c κs =
       f .cells,
     )
 
+least-alpha-requires : tie.Need-least-alpha-requires
+least-alpha-requires c κs = search needs
+
 finish-requires : tie.Need-finish-requires
 finish-requires c κs =
-    let d = c .before .before .before .before .before .before in
+    let d = c .before .before .before .before .before .before .before in
     let s = began (listed (d .before)) in
     let a = s .args in
     finishable (asked s) (a .indices .now) (a .out .now) (a .cells .now) (s .pre .0) (fit (listed (d .before))) _ (drawn-over d)
@@ -114,14 +118,15 @@ same-length-4 c = search needs
 
 returns : tie.Need-returns
 returns c =
-    let d = c .before .before .before .before .before .before .before .before .before in
+    let d = c .before .before .before .before .before .before .before .before .before .before in
     let s = began (listed (d .before)) in
     let a = s .args in
     let q = asked s in
-    let left = d .draw .last .1 .1 .1 .1 .1 .1 .1 .1 .1 .0 in
+    let left = d .draw .last .1 .1 .1 .1 .1 .1 .1 .1 .1 .1 .1 .0 in
     let positions = subst (λ (p : Drawing). PositionsAfter p (a .indices .now) left) (same-picture (d .before)) (d .draw .ensures .2) in (
       positions (palette-alike q) (s .pre .0 .few) (s .pre .0 .indices) ∙ positions-are q,
-      c .before .before .finish .ensures ∙ finished-all (quantizing q) _ (drawn-over d),
+      c .before .before .finish .ensures
+          ∙ finished-lent (dithererOf q (widthOf (q .shift) (entries q))) Absent (lentOf q (paletteOklab q)) _ (c .before .before .before .before .least-alpha .ensures) _ (drawn-over d),
       d .draw .ensures .1 ∙ ap (λ (p : Drawing). cellsAfter p (a .cells .now)) (same-picture (d .before)),
     )
 
@@ -137,6 +142,7 @@ quantize-spec =
     slice-reshare-prefix-oklab
     slice-aggregate-oklab
     draw-requires
+    least-alpha-requires
     finish-requires
     same-length
     same-length-2

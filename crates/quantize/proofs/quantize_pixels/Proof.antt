@@ -14,14 +14,14 @@ use Rattle.quantize.proofs.quantize_pixels.Tie as tie
 abbrev asked : tie.Start → Commission
 asked s =
     let a = s .args in
-    commission (a .shift) (a .kind) (a .width) (a .height) (a .reduction .now) (a .scale .now) (a .palette .now) (a .pixels .now)
+    commission (a .shift) (a .reducing) (a .kind) (a .width) (a .height) (a .reduction .now) (a .scale .now) (a .palette .now) (a .pixels .now) (a .opaque .now)
 
 abbrev rows : tie.Start → List Reply
 rows s = replies (asked s) (s .args .indices .now) (s .args .out .now) (s .args .cells .now)
 
 -- where the number is known
 abbrev start : tie.After-refusal → tie.Start
-start c = c .before .before .before .before .before .before .before
+start c = c .before .before .before .before .before .before .before .before
 
 refusal-requires : tie.Need-refusal-requires
 refusal-requires c κs = search needs

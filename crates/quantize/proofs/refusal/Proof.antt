@@ -6,7 +6,7 @@ use native.Mathlib.Omega.{arith}
 use Rattle.picture.specs.Bounds.{sizeWrong}
 use Rattle.picture.proofs.BoundLaws.{sized}
 use Rattle.patterns.specs.Kinds.{isKind, isRetired}
-use Rattle.mixing.specs.Widths.{isShift}
+use Rattle.reducing.specs.Reduce.{isPairing}
 use Rattle.quantize.specs.Quantize.{lengthsWrong}
 use borrow.Author.Needs.{needs}
 use Rattle.quantize.proofs.refusal.Statement.{statement}
@@ -15,8 +15,8 @@ use Rattle.quantize.proofs.refusal.Tie as tie
 is-kind-requires : tie.Need-is-kind-requires
 is-kind-requires c κs = search needs
 
-is-shift-requires : tie.Need-is-shift-requires
-is-shift-requires c κs = search needs
+is-pairing-requires : tie.Need-is-pairing-requires
+is-pairing-requires c κs = search needs
 
 is-retired-requires : tie.Need-is-retired-requires
 is-retired-requires c κs = search needs
@@ -29,7 +29,7 @@ returns : tie.Need-returns
 returns c =
     let a = c .before in
     let r = a .before in
-    rw (← r .before .before .is-kind .ensures, ← r .before .is-shift .ensures, ← r .is-retired .ensures, ← a .size-wrong .ensures, c .if1 .taken)
+    rw (← r .before .before .is-kind .ensures, ← r .before .is-pairing .ensures, ← r .is-retired .ensures, ← a .size-wrong .ensures, c .if1 .taken)
 
 returns-2 : tie.Need-returns-2
 returns-2 c =
@@ -37,7 +37,7 @@ returns-2 c =
     let r = a .before in
     rw (
       ← r .before .before .is-kind .ensures,
-      ← r .before .is-shift .ensures,
+      ← r .before .is-pairing .ensures,
       ← r .is-retired .ensures,
       ← a .size-wrong .ensures,
       c .before .if1 .left,
@@ -50,7 +50,7 @@ returns-3 c =
     let r = a .before in
     rw (
       ← r .before .before .is-kind .ensures,
-      ← r .before .is-shift .ensures,
+      ← r .before .is-pairing .ensures,
       ← r .is-retired .ensures,
       ← a .size-wrong .ensures,
       c .before .before .if1 .left,
@@ -65,10 +65,10 @@ asked c = c .before .before .before
 abbrev start : tie.Else3 → tie.Start
 start c = asked c .before .before .before .before
 
-mode-right : (c : tie.Else3) → not (isKind (start c .args .kind)) || not (isShift (start c .args .shift)) ≡ false
+mode-right : (c : tie.Else3) → not (isKind (start c .args .kind)) || not (isPairing (start c .args .reducing) (start c .args .shift)) ≡ false
 mode-right c =
     let s = asked c .before .before in
-    (λ i. not (sym (s .before .is-kind .ensures) i) || not (sym (s .is-shift .ensures) i)) ∙ c .before .before .if1 .left
+    (λ i. not (sym (s .before .is-kind .ensures) i) || not (sym (s .is-pairing .ensures) i)) ∙ c .before .before .if1 .left
 
 drawn : (c : tie.Else3) → isRetired (start c .args .kind) ≡ false
 drawn c = sym (asked c .before .is-retired .ensures) ∙ c .before .if2 .left
@@ -79,7 +79,7 @@ size-right c = sym (asked c .size-wrong .ensures) ∙ c .if3 .left
 small : (c : tie.Else3) → start c .args .width * start c .args .height ≤ 1048576
 small c = sized _ _ (size-right c) .2
 
-lengths-right : (c : tie.Else4) → let a = start (c .before .before) .args in lengthsWrong (a .kind) (a .width * a .height) (a .s) ≡ false
+lengths-right : (c : tie.Else4) → let a = start (c .before .before) .args in lengthsWrong (a .reducing) (a .kind) (a .width * a .height) (a .s) ≡ false
 lengths-right c = sym (c .before .lengths-wrong .ensures) ∙ c .if4 .left
 
 mul-size : tie.Need-mul-size
@@ -111,7 +111,7 @@ refusal-spec =
     tie.close
     (tie.spec
     is-kind-requires
-    is-shift-requires
+    is-pairing-requires
     is-retired-requires
     size-wrong-requires
     returns

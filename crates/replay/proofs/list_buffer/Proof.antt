@@ -6,7 +6,7 @@ use Rattle.replay.proofs.list_buffer.Statement.{statement}
 use Rattle.replay.proofs.list_buffer.Tie as tie
 
 returns : tie.Need-returns
-returns c = sym (length-replicate {A = ℕ} 500000 0)
+returns c = sym (length-replicate {A = ℕ} 600000 0)
 
 pub list-buffer-spec : {M : Type 1} → statement M
 list-buffer-spec = tie.close (tie.spec returns)

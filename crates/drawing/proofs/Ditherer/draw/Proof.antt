@@ -13,7 +13,7 @@ use Rattle.drawing.proofs.Ditherer.draw.Tie as tie
 
 -- where the kind is asked, and what was answered
 abbrev start : tie.After-is-diffusion → tie.Start
-start c = c .before .before .before .before .before .before .before .before
+start c = c .before .before .before .before .before .before .before .before .before .before
 
 kind-is : (c : tie.After-is-diffusion) (t : Bool) → c .is-diffusion .result ≡ t → isDiffusion (start c .args .self .kind) ≡ t
 kind-is c t e = sym (c .is-diffusion .ensures) ∙ e
@@ -22,7 +22,10 @@ kind-is c t e = sym (c .is-diffusion .ensures) ∙ e
 abbrev picture : tie.Start → Drawing
 picture s =
     let a = s .args in
-    drawingOf (a .self) (a .zero) (lent (a .reduction .now) (a .scale .now) (a .pixels .now) (a .colors .now) (a .oklab .now) (a .count))
+    drawingOf (a .self) (a .zero) (lent (a .reducing) (a .reduction .now) (a .scale .now) (a .pixels .now) (a .opaque .now) (a .colors .now) (a .oklab .now) (a .count))
+
+least-alpha-requires : tie.Need-least-alpha-requires
+least-alpha-requires c κs = search needs
 
 is-diffusion-requires : tie.Need-is-diffusion-requires
 is-diffusion-requires c κs = search needs
@@ -32,14 +35,14 @@ draw-diffused-requires c κs =
     let k = c .before .before .before .before .before in
     let p = start k .pre in
     let d = kind-is k _ (c .before .before .before .before .if1 .taken) in
-    (p .0, p .1, d, p .2, p .3 d, table-none _)
+    (p .0, p .1, k .before .least-alpha .ensures, d, p .2, p .3 d, table-none _)
 
 draw-each-requires : tie.Need-draw-each-requires
 draw-each-requires c κs =
     let k = c .before .before .before .before in
     let p = start k .pre in
     let e = kind-is k _ (c .before .before .before .if1 .left) in
-    (p .0, p .1, e, p .2, remembers-none (start k .args .self) _)
+    (p .0, p .1, k .before .least-alpha .ensures, e, p .2, remembers-none (start k .args .self) _)
 
 same-length : tie.Need-same-length
 same-length c = search needs
@@ -74,6 +77,7 @@ pub draw-spec : {M : Type 1} → statement M
 draw-spec =
     tie.close
     (tie.spec
+    least-alpha-requires
     is-diffusion-requires
     draw-diffused-requires
     draw-each-requires

@@ -13,17 +13,17 @@ use Rattle.drawing.proofs.Ditherer.draw_each.Statement.{statement}
 use Rattle.drawing.proofs.Ditherer.draw_each.Tie as tie
 
 abbrev Inv-loop : tie.InvT-loop
-Inv-loop self zero linear reduction scale pixels colors oklab count memory₀ indices₀ out₀ size i₀ memory indices out i =
-    Filling 4 (pixelBytes (drawingOf self zero (lent reduction scale pixels colors oklab count))) out₀ out i
+Inv-loop self zero linear least reducing reduction scale pixels opaque colors oklab count memory₀ indices₀ out₀ size i₀ memory indices out i =
+    Filling 4 (pixelBytes (drawingOf self zero (lent reducing reduction scale pixels opaque colors oklab count))) out₀ out i
     × Remembers self (scaled colors scale oklab count) memory
-    × Noting (drawingOf self zero (lent reduction scale pixels colors oklab count)) indices₀ indices i
+    × Noting (drawingOf self zero (lent reducing reduction scale pixels opaque colors oklab count)) indices₀ indices i
 
 abbrev μ-loop : tie.MeasureT-loop
-μ-loop self zero linear reduction scale pixels colors oklab count memory₀ indices₀ out₀ size i₀ memory indices out i = size - i
+μ-loop self zero linear least reducing reduction scale pixels opaque colors oklab count memory₀ indices₀ out₀ size i₀ memory indices out i = size - i
 
 -- where the function began, from a turn of the loop
 abbrev start : tie.In-loop Inv-loop μ-loop → tie.Start Inv-loop μ-loop
-start c = c .before .before .before .before .before .before .before .before .before .before .before
+start c = c .before .before .before .before .before .before .before .before .before .before .before .before
 
 cast-size : tie.Need-cast-size Inv-loop μ-loop
 cast-size c = search needs
@@ -35,13 +35,13 @@ mul-size : tie.Need-mul-size Inv-loop μ-loop
 mul-size c = search needs
 
 loop-holds : tie.Need-loop-holds Inv-loop μ-loop
-loop-holds c = (fill-begin 4 _ _, c .before .before .before .before .before .before .before .before .before .pre .4, note-begin _ _)
+loop-holds c = (fill-begin 4 _ _, c .before .before .before .before .before .before .before .before .before .before .pre .5, note-begin _ _)
 
 pixel-color-requires : tie.Need-pixel-color-requires Inv-loop μ-loop
-pixel-color-requires c κs = let p = start (c .before) .pre in (p .0, p .1, p .2, c .before .loop-test .taken, c .before .before .loop .inv .1)
+pixel-color-requires c κs = let p = start (c .before) .pre in (p .0, p .1, p .2, p .3, c .before .loop-test .taken, c .before .before .loop .inv .1)
 
 put-rgba-requires : tie.Need-put-rgba-requires Inv-loop μ-loop
-put-rgba-requires c κs = let l = c .before .before .before in omega (arith, l .before .loop .inv .0 .long, start l .pre .3, l .loop-test .taken)
+put-rgba-requires c κs = let l = c .before .before .before in omega (arith, l .before .loop .inv .0 .long, start l .pre .4, l .loop-test .taken)
 
 note-position-requires : tie.Need-note-position-requires Inv-loop μ-loop
 note-position-requires c κs = search needs
@@ -60,7 +60,7 @@ loop-again c =
     let chosen = put .before .before .pixel-color .ensures in
     let l = put .before .before .before .before in
     let inv = l .before .loop .inv in (
-      out-more _ _ _ _ (start l .pre .3) (inv .0) _ _ (l .loop-test .taken) (chosen .0 .color) (put .put-rgba .ensures),
+      out-more _ _ _ _ (start l .pre .4) (inv .0) _ _ (l .loop-test .taken) (chosen .0 .color) (put .put-rgba .ensures),
       chosen .1,
       note-more _ _ _ _ (inv .2) _ _ (l .loop-test .taken) (chosen .0) (c .before .before .note-position .ensures),
     )
@@ -74,9 +74,9 @@ same-length-2 c = c .before .loop .inv .0 .long
 returns : tie.Need-returns Inv-loop μ-loop
 returns c =
     let l = c .before .loop in
-    let p = c .before .before .before .before .before .before .before .before .before .before .before .pre in
+    let p = c .before .before .before .before .before .before .before .before .before .before .before .before .pre in
     let past = c .loop-test .left in
-    (out-all _ _ _ _ (p .3) (l .inv .0) past, note-done _ _ _ _ (l .inv .2) (omega (arith, l .inv .0 .within, p .3, past)))
+    (out-all _ _ _ _ (p .4) (l .inv .0) past, note-done _ _ _ _ (l .inv .2) (omega (arith, l .inv .0 .within, p .4, past)))
 
 pub draw-each-spec : {M : Type 1} → statement M
 draw-each-spec =
