@@ -1,5 +1,7 @@
 // The recorded cases of the calls on single values and of the lookups, replayed. One function a call: it takes a case's
 // tokens, calls, and compares the answer. A case whose tokens have not the widths that its call wants differs.
+#![tactic(auto)]
+
 use color::{Distance, NormalizedColor, Oklab, ReducedColor};
 use lookup::{Bracket, Choice, Found, FoundBracket, FoundTwo, Picked, Second, Two};
 use mixing::Width;
@@ -28,7 +30,7 @@ pub fn oklab_at(p: &[u8], i: u8) -> Oklab {
 // Whether token k is this colour.
 fn is_color(room: &[u8], k: usize, c: ReducedColor) -> bool {
     let bytes = [c.0.r, c.0.g, c.0.b, c.0.a];
-    check::same(part(room, k), &bytes)
+    part(room, k) == bytes.as_slice()
 }
 
 // ---- the calls on single values

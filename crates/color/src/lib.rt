@@ -3,6 +3,8 @@
 // `Rgba8888`, `NormalizedColor`, `ReducedColor`, `CandidateColor`, `eq_rgb` and `oklab_sqdist` are named as in src/color.rs,
 // `normalize_color` as in src/mode/color.rs. There `oklab_sqdist` answers for every colour, as `sqdist` does here;
 // `is_transparent` is asked of reduced colours alone. All else that is not there is added.
+#![tactic(auto)]
+
 ghost use Rattle.std.specs.Prelude.{◌≡◌, ◌+◌, ◌*◌, ◌<◌, length, get_or};
 ghost use Rattle.std.proofs.lemmas.List.Edits.{sets};
 ghost use Rattle.color.specs.Color.{rgba, is_transparent, same_reduced, EqRgbAnswered, rgba_at, bytes_of};
@@ -10,7 +12,7 @@ ghost use Rattle.color.specs.Tables.{normalize_color};
 ghost use Rattle.color.specs.Oklab.{in_range, all_in_range, sqdist_of, OklabSqdistAnswered, oklab_at, floats_of};
 
 // A raw colour, eight bits a channel.
-#[derive(Drop)]
+#[derive(Clone, Copy)]
 pub struct Rgba8888 {
     pub r: u8,
     pub g: u8,
@@ -34,7 +36,7 @@ impl Rgba8888 {
 }
 
 // A colour at full precision.
-#[derive(Drop)]
+#[derive(Clone, Copy)]
 pub struct NormalizedColor(pub Rgba8888);
 
 impl NormalizedColor {
@@ -48,7 +50,7 @@ impl NormalizedColor {
 }
 
 // A colour at a mode's own precision.
-#[derive(Drop)]
+#[derive(Clone, Copy)]
 pub struct ReducedColor(pub Rgba8888);
 
 impl ReducedColor {
@@ -134,7 +136,7 @@ pub fn normalize_color(scale: &[u8], c: ReducedColor) -> NormalizedColor
 
 // ---- Oklab
 
-#[derive(Drop)]
+#[derive(Clone, Copy)]
 pub struct Oklab {
     pub l: f32,
     pub a: f32,
@@ -142,7 +144,7 @@ pub struct Oklab {
 }
 
 // A candidate: a reduced colour, its full precision form, and that form's Oklab colour.
-#[derive(Drop)]
+#[derive(Clone, Copy)]
 pub struct CandidateColor {
     pub reduced: ReducedColor,
     pub normalized: NormalizedColor,
@@ -150,7 +152,7 @@ pub struct CandidateColor {
 }
 
 // What `oklab_sqdist` answers.
-#[derive(Drop)]
+#[derive(Clone, Copy)]
 pub enum Distance {
     Squared(f32),
     Refused(u8),

@@ -1,5 +1,7 @@
 // The conversion of a colour to Oklab: linear values of the bytes, three sums of them, their cube roots, and three sums of
 // the roots in millionths. All is exact but the last step, the millionths as f32 values.
+#![tactic(auto)]
+
 pub mod linear;
 pub mod list;
 mod root;

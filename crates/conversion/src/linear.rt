@@ -3,7 +3,7 @@ ghost use Rattle.std.specs.Prelude.{◌≡◌, ◌+◌, ◌*◌, ◌<◌, T, len
 ghost use Rattle.conversion.specs.Linear.{values, linear_of, curve_of, in_rests};
 
 // The linear values of a colour's red, green and blue.
-#[derive(Drop)]
+#[derive(Clone, Copy)]
 pub(crate) struct Three {
     pub(crate) r: u64,
     pub(crate) g: u64,

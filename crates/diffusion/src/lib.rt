@@ -2,6 +2,8 @@
 // each a whole number of sixteenths. `clamp_u8` and `diffuse` are named as in src/dither.rs, where the rest is the body of
 // `Ditherer`'s `diffusion_color_at`. There a cell is an f32, `clamp_u8` takes a float, and `diffuse` has the cells and the
 // size in the `Ditherer`; here all are whole numbers, and cells and size are lent.
+#![tactic(auto)]
+
 ghost use Rattle.std.specs.Prelude.{◌≡◌, List, ℕ, ◌+◌, ◌*◌, ◌<◌, ◌≤◌, ℤ, pos, nat_abs, ◌+ℤ◌, ◌-ℤ◌, ◌*ℤ◌, length, get_or};
 ghost use Rattle.patterns.specs.Kernel.{Target, Arrays, atkinson, floyd_steinberg, place, pixel};
 ghost use Rattle.patterns.specs.Kinds.{kernel_of};
@@ -86,7 +88,7 @@ fn residual(biased: u8, chosen: u8) -> i16
 // ---- sends
 
 // Where a send arrives.
-#[derive(Drop)]
+#[derive(Clone, Copy)]
 enum Landing {
     Pixel(usize),
     Outside,

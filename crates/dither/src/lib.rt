@@ -1,6 +1,8 @@
 // Dithering a picture to a mode: `dither_to_mode` of src/dither.rs. The picture's candidates are collected; every pixel's
 // choice among them is drawn into the lent pixels as a reduced colour; the tiles are judged; and what keeps to the limit gets
 // its full precision.
+#![tactic(auto)]
+
 ghost use Rattle.std.specs.Prelude.{◌≡◌, ◌*◌, ◌≤◌, length, replicate, pos};
 ghost use Rattle.replies.specs.Replies.{first_reply};
 ghost use Rattle.drawing.specs.Lent.{reduced_bytes, cells_after};
@@ -15,7 +17,7 @@ use reducing::Reducing;
 
 // What is asked of a picture: the kind of dithering, the mode's shift and how it reduces, the picture's size and its origin in
 // the source picture, the tiles' sides, how many colours a tile may have, and colour zero.
-#[derive(Drop)]
+#[derive(Clone, Copy)]
 pub struct Settings {
     pub kind: u32,
     pub shift: u32,
@@ -32,7 +34,7 @@ pub struct Settings {
 
 // What `dither_to_mode` answers: how many candidates there are; these too where a tile is over its limit, with the first
 // such tile; or the number of the refusal.
-#[derive(Drop)]
+#[derive(Clone, Copy)]
 pub enum Dithered {
     Count(u32),
     Over { tile: u32, count: u32 },
@@ -40,7 +42,7 @@ pub enum Dithered {
 }
 
 // How long each lent buffer is.
-#[derive(Drop)]
+#[derive(Clone, Copy)]
 pub struct Lengths {
     pub reduction: usize,
     pub scale: usize,

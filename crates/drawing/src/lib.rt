@@ -1,6 +1,8 @@
 // Drawing a picture: every pixel's choice, for all kinds of dithering, into a lent buffer as reduced bytes, and its position
 // among the candidates into another; and finishing it, which gives the choices their full precision. Names are those of
 // `Ditherer` in src/dither.rs; the error cells are lent.
+#![tactic(auto)]
+
 ghost use Rattle.std.specs.Prelude.{◌≡◌, true, false, ◌+◌, ◌*◌, ◌/◌, ◌%◌, ◌<◌, length, set};
 ghost use Rattle.patterns.specs.Kinds.{is_ordered, is_diffusion, kernel_of};
 ghost use Rattle.diffusion.specs.Sends.{Room};
@@ -27,14 +29,14 @@ use reducing::Reducing;
 use remembered::MEMORY;
 
 // A picture's colour zero: absent, or one reduced colour.
-#[derive(Drop)]
+#[derive(Clone, Copy)]
 pub enum ColorZero {
     Absent,
     Is(ReducedColor),
 }
 
 // How a picture is dithered.
-#[derive(Drop)]
+#[derive(Clone, Copy)]
 pub struct Ditherer {
     pub kind: u32,
     pub origin_x: u32,
@@ -45,7 +47,7 @@ pub struct Ditherer {
 }
 
 // What a pixel keeps that has colour zero's rgb: its reduced colour; and that another keeps none.
-#[derive(Drop)]
+#[derive(Clone, Copy)]
 enum Kept {
     Color(ReducedColor),
     None,

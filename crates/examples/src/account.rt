@@ -3,7 +3,7 @@
 
 // How a dithered pixel shares its residual in a row of two, in sixteenths: to the pixel on its right, to the kernel's other
 // targets, which are all outside the picture, and what is held back.
-#[derive(Drop)]
+#[derive(Clone, Copy)]
 pub struct Shares {
     pub right: u8,
     pub others: u8,
@@ -12,7 +12,7 @@ pub struct Shares {
 
 // What an example's line says of a channel, in sixteenths: sources less choices; the losses; what reached a skipped pixel;
 // what each pixel sent past the edges; what each held back. No line says a number below 0.
-#[derive(Drop)]
+#[derive(Clone, Copy)]
 pub struct Account {
     pub excess: u16,
     pub lost: u16,
@@ -33,7 +33,7 @@ fn balances(a: Account) -> bool {
 // ---- one channel of a pixel
 
 // What was lent of it, and what the call left.
-#[derive(Drop)]
+#[derive(Clone, Copy)]
 struct Sample {
     source: u8,
     cell: i16,

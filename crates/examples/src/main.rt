@@ -1,19 +1,20 @@
 // The worked examples of document 01 and one of our own, run: one line each, its name and "same" or "differs".
+#![tactic(auto)]
+
 mod account;
 mod pictures;
 
 use color::{NormalizedColor, Oklab};
-use libc::STDOUT_FILENO;
 use mixing::Width;
 use patterns::Thresholded;
+use std::io;
 
 // An example's line.
-fn line(name: &[u8], same: bool) {
-    io::write_all(STDOUT_FILENO, name);
+fn line(rt: &impl Print, name: &str, same: bool) -> io::Result<()> {
     if same {
-        io::write_all(STDOUT_FILENO, b" same\n");
+        println!(rt; "{name} same")
     } else {
-        io::write_all(STDOUT_FILENO, b" differs\n");
+        println!(rt; "{name} differs")
     }
 }
 
@@ -100,17 +101,17 @@ fn e6() -> bool {
         & ((clipped == 255) & loss_is(250, 320, clipped, 240, 0))
 }
 
-fn main() {
-    line(b"E1", e1());
-    line(b"E2", e2());
-    line(b"E3", e3());
-    line(b"E4", e4());
-    line(b"E5", e5());
-    line(b"E6", e6());
-    line(b"E7", pictures::e7());
-    line(b"E8", pictures::e8());
-    line(b"E9", pictures::e9());
-    line(b"E10", pictures::e10());
-    line(b"E11", pictures::e11());
-    line(b"greys", pictures::greys());
+fn main(rt: HostRuntime) -> io::Result<()> {
+    line(&rt, "E1", e1())?;
+    line(&rt, "E2", e2())?;
+    line(&rt, "E3", e3())?;
+    line(&rt, "E4", e4())?;
+    line(&rt, "E5", e5())?;
+    line(&rt, "E6", e6())?;
+    line(&rt, "E7", pictures::e7())?;
+    line(&rt, "E8", pictures::e8())?;
+    line(&rt, "E9", pictures::e9())?;
+    line(&rt, "E10", pictures::e10())?;
+    line(&rt, "E11", pictures::e11())?;
+    line(&rt, "greys", pictures::greys())
 }

@@ -42,7 +42,7 @@ fn atkinson() -> Shares {
 
 // Whether both pixels became black, entry 0, of which the second is transparent where its alpha is 0.
 fn are_black(indices: &[u8], out: &[u8], alpha: u8) -> bool {
-    check::same(indices, &[0u8, 0]) & check::same(out, &[0u8, 0, 0, 255, 0, 0, 0, alpha])
+    (indices == [0u8, 0].as_slice()) & (out == [0u8, 0, 0, 255, 0, 0, 0, alpha].as_slice())
 }
 
 // Whether the two pixels, the second with this alpha, become black and leave the account that is said.
@@ -254,7 +254,7 @@ pub fn greys() -> bool {
         &mut places,
         &mut oklab,
     ) {
-        CandidateCount::Count(n) => (n == 4) & check::same(&places, &four(0, 52, 60, 255, 255)),
+        CandidateCount::Count(n) => (n == 4) & (places == four(0, 52, 60, 255, 255)),
         CandidateCount::Refused(_) => false,
     }
 }

@@ -1,6 +1,8 @@
 // The C interface: each function is one call down, and hands numbers over. include/badge_dither.h declares them. All but
 // `badge_to_oklab` and `badge_lerp` answer the number of document 01, or 02; what is behind a pointer or in a lent buffer is
 // written on acceptance only, but for the candidates' places, which 7 clears, and for what 8 leaves.
+#![tactic(auto)]
+
 ghost use Rattle.std.specs.Prelude.{◌≡◌, length};
 ghost use Rattle.color.specs.Color.{reduced_at, bytes_of};
 ghost use Rattle.dither.specs.Mode as mode;

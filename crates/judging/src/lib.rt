@@ -1,5 +1,7 @@
 // Judging a picture: the first tile whose pixels have more different colours than the limit, as `dither_to_mode` of
 // src/dither.rs finds it. The tile's colours so far stand as numbers at the front of an array, with their count.
+#![tactic(auto)]
+
 ghost use Rattle.std.specs.Prelude.{◌≡◌, ◌+◌, ◌*◌, ◌≤◌, ◌<◌, min, length, take, eqb};
 ghost use Rattle.color.specs.Color.{reduced_at};
 ghost use Rattle.picture.specs.Pixels.{seen_from};
@@ -8,7 +10,7 @@ ghost use Rattle.judging.specs.Keys.{color_with_key, count_with, keys_with, Turn
 ghost use Rattle.judging.specs.Tiles.{tiles_over, verdict_of, judged_of, Judgeable};
 
 // Whether every tile keeps to the limit, or the number of the first that does not.
-#[derive(Drop)]
+#[derive(Clone, Copy)]
 pub enum Judged {
     Fits,
     Over(u32),

@@ -1,5 +1,7 @@
 // Lists, whatever they hold. The code sets lent buffers to zero, as document 01's replies 7 and 8 and its error cells
 // ask; the definitions and laws on lists that every picture needs stand in specs/ and proofs/.
+#![tactic(auto)]
+
 ghost use Rattle.std.specs.Prelude.{◌≡◌, length, replicate, pos};
 
 // Sets every byte to 0.

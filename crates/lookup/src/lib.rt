@@ -1,6 +1,8 @@
 // Choosing colours: the nearest candidate, the nearest two, the ordered bracket and what is picked of it, over flat lists of
 // candidates. `pick` has the name that src/dither.rs gives it; the calls over flat lists are the base of the lookups over
 // records, which are in crate `records` and have its names. The functions of the modules answer positions.
+#![tactic(auto)]
+
 pub mod brackets;
 mod checks;
 mod flat;
@@ -28,14 +30,14 @@ pub fn count_fits(count: usize) -> bool
 // ---- what the lookups answer
 
 // The second candidate, if there is one.
-#[derive(Drop)]
+#[derive(Clone, Copy)]
 pub enum Second {
     At(usize),
     Nothing,
 }
 
 // The nearest candidate and the second, by position.
-#[derive(Drop)]
+#[derive(Clone, Copy)]
 pub struct Two {
     pub first: usize,
     pub second: Second,
@@ -43,7 +45,7 @@ pub struct Two {
 
 // The best mix so far: a position with its error where `found` is 1, nothing yet where it is 0. As a number beside the error
 // `found` leaves no gap in the record: the loop would copy a gap too, and slowly.
-#[derive(Drop)]
+#[derive(Clone, Copy)]
 pub struct Best {
     pub found: u32,
     pub error: f32,
@@ -64,7 +66,7 @@ impl Best {
 }
 
 // A bracket by positions.
-#[derive(Drop)]
+#[derive(Clone, Copy)]
 pub struct BracketAt {
     pub dark: usize,
     pub light: usize,
@@ -86,7 +88,7 @@ impl BracketAt {
 
 // The two colours an ordered dither alternates between for one source colour, the share of `light` in the mix, and which
 // entries of the list the two are.
-#[derive(Drop)]
+#[derive(Clone, Copy)]
 pub struct Bracket {
     pub dark: ReducedColor,
     pub light: ReducedColor,
@@ -96,35 +98,35 @@ pub struct Bracket {
 }
 
 // An entry that is taken: its reduced colour, and its position.
-#[derive(Drop)]
+#[derive(Clone, Copy)]
 pub struct Choice {
     pub color: ReducedColor,
     pub position: usize,
 }
 
 // What `pick` answers.
-#[derive(Drop)]
+#[derive(Clone, Copy)]
 pub enum Picked {
     Of(Choice),
     Refused(u8),
 }
 
 // What `flat_nearest` answers.
-#[derive(Drop)]
+#[derive(Clone, Copy)]
 pub enum Found {
     At(usize),
     Refused(u8),
 }
 
 // What `flat_nearest_two` answers.
-#[derive(Drop)]
+#[derive(Clone, Copy)]
 pub enum FoundTwo {
     At(Two),
     Refused(u8),
 }
 
 // What `flat_ordered_bracket` answers.
-#[derive(Drop)]
+#[derive(Clone, Copy)]
 pub enum FoundBracket {
     Of(Bracket),
     Refused(u8),

@@ -2,6 +2,8 @@
 // for. `bracket_width`, `lerp` and `mix_residual` are named as in src/dither.rs, and stand in its order. There
 // `bracket_width` is asked for a mode; here it takes the mode's shift, and refuses what is none. The functions under the
 // three are added.
+#![tactic(auto)]
+
 ghost use Rattle.std.specs.Prelude.{◌≡◌, true};
 ghost use Rattle.floats.specs.Bytes.{dot};
 ghost use Rattle.mixing.specs.Widths.{is_shift, clamp_width, width_of, BracketWidthAnswered};
@@ -12,7 +14,7 @@ use color::NormalizedColor;
 // ---- the width of a bracket
 
 // What `bracket_width` answers.
-#[derive(Drop)]
+#[derive(Clone, Copy)]
 pub enum Width {
     Of(u64),
     Refused(u8),

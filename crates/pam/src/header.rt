@@ -9,7 +9,7 @@ ghost use Rattle.pam.specs.Reading.{capped, capped_line, unset, turn_of, values_
 use crate::text::{LINE, TOKEN, WHITE, is_number, run_of, same_text, value_of};
 
 // What a header line says: nothing, a value for one of five names, that the header ends; or it is wrong.
-#[derive(Drop)]
+#[derive(Clone, Copy)]
 pub enum HeaderLine {
     Ignored,
     Value(u32, u32),
@@ -203,7 +203,7 @@ fn read_lines(bytes: &[u8], values: &mut [u32]) -> usize
 
 // A header: its sides up to a million, its samples a pixel, and where the raster begins; 0 there where the header is outside
 // the subset.
-#[derive(Drop)]
+#[derive(Clone, Copy)]
 pub struct Header {
     pub width: u32,
     pub height: u32,

@@ -1,5 +1,7 @@
 // PAM files: the size of one, its pixels, and the one form that is written. The layout is that of the public Netpbm PAM
 // document; the subset is document 02's, Ask 1.
+#![tactic(auto)]
+
 mod header;
 mod raster;
 mod text;
@@ -13,21 +15,21 @@ ghost use Rattle.pam.specs.Reading.{HeaderRead};
 use header::{Header, header_of};
 
 // A file's width and height, or document 02's number of a refusal.
-#[derive(Drop)]
+#[derive(Clone, Copy)]
 pub enum Size {
     Of(u32, u32),
     Refused(u8),
 }
 
 // How many bytes a file takes, or document 02's number of a refusal.
-#[derive(Drop)]
+#[derive(Clone, Copy)]
 pub enum Length {
     Of(u64),
     Refused(u8),
 }
 
 // Whether a file was written, or document 02's number of a refusal.
-#[derive(Drop)]
+#[derive(Clone, Copy)]
 pub enum Written {
     Accepted,
     Refused(u8),

@@ -2,13 +2,15 @@
 // The kinds, the matrices and `ordered_threshold` are named as in src/dither.rs, and the kinds and each kernel's targets
 // stand in its order. There a kernel is one list of tuples and a kind has no number; here a kernel is three arrays side by
 // side, and all that goes by a kind's number is added. The stipples are retired: their numbers are theirs, and no more.
+#![tactic(auto)]
+
 ghost use Rattle.std.specs.Prelude.{◌≡◌, ◌≤◌, T};
 ghost use Rattle.patterns.specs.Kernel.{Arrays, atkinson, floyd_steinberg};
 ghost use Rattle.patterns.specs.Kinds.{kind_of, is_kind, is_retired, is_ordered, is_diffusion, cells_needed};
 ghost use Rattle.patterns.specs.Thresholds.{threshold_from, entry_in, threshold_at, OrderedThresholdAnswered};
 
 // A kind of dithering.
-#[derive(Drop)]
+#[derive(Clone, Copy)]
 pub enum Dither {
     // No dithering.
     Off,
@@ -35,7 +37,7 @@ pub enum Dither {
 }
 
 // What a number stands for.
-#[derive(Drop)]
+#[derive(Clone, Copy)]
 pub enum Kind {
     Known(Dither),
     Unknown,
@@ -156,7 +158,7 @@ fn threshold_8x8(matrix: [[u8; 8]; 8], n: f32, x: u32, y: u32) -> f32
 }
 
 // What `ordered_threshold` answers.
-#[derive(Drop)]
+#[derive(Clone, Copy)]
 pub enum Thresholded {
     At(f32),
     Refused(u8),
@@ -210,14 +212,14 @@ const FLOYD_STEINBERG_DY: [u32; 4] = [0, 1, 1, 1];
 const FLOYD_STEINBERG_WEIGHT: [u8; 4] = [7, 3, 5, 1];
 
 // A kernel's three arrays, side by side. Their lengths differ, so each kernel has a type.
-#[derive(Drop)]
+#[derive(Clone, Copy)]
 pub struct AtkinsonKernel {
     pub dx: [i32; 6],
     pub dy: [u32; 6],
     pub weight: [u8; 6],
 }
 
-#[derive(Drop)]
+#[derive(Clone, Copy)]
 pub struct FloydSteinbergKernel {
     pub dx: [i32; 4],
     pub dy: [u32; 4],

@@ -1,4 +1,6 @@
 // What all calls on pictures share: the bounds of sizes and lent lengths, the pixels that reduce, and the colours of a pixel.
+#![tactic(auto)]
+
 ghost use Rattle.std.specs.Prelude.{◌≡◌, true, ◌+◌, ◌*◌, ◌<◌, ◌≤◌, length};
 ghost use Rattle.reducing.specs.declared.Reducing.{Reducing};
 ghost use Rattle.reducing.specs.Reduce.{keeps_channels};

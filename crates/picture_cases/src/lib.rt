@@ -2,6 +2,8 @@
 // length, and compares the answer and all of them afterwards. There is room for 320 pixels and as many candidates, more than
 // any recorded picture has. A case that needs more, or whose tokens have not the widths that its call wants, or that names a
 // reduction that there isn't, differs.
+#![tactic(auto)]
+
 mod modes;
 mod pictures;
 mod rooms;
@@ -15,7 +17,7 @@ pub fn has_tables(letter: u8) -> bool {
 }
 
 // How a case reduces, where its number is one of a reduction.
-#[derive(Drop)]
+#[derive(Clone, Copy)]
 enum Named {
     As(Reducing),
     Nothing,

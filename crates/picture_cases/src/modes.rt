@@ -77,8 +77,8 @@ fn is_answer(room: &[u8], answer: Dithered) -> bool {
 
 // Whether the buffers are the recorded ones.
 fn are_left(room: &[u8], places: &[u8], oklab: &[f32], out: &[u8], cells: &[i16]) -> bool {
-    (check::same(part(room, 23), places) & are_floats(room, 24, oklab))
-        & (check::same(part(room, 25), out) & are_cells(room, 26, cells))
+    ((part(room, 23) == places) & are_floats(room, 24, oklab))
+        & ((part(room, 25) == out) & are_cells(room, 26, cells))
 }
 
 fn dithered(

@@ -40,8 +40,7 @@ fn call(
 // Whether the answer and the buffers are the recorded ones.
 fn are_recorded(room: &[u8], number: u8, indices: &[u8], out: &[u8], cells: &[i16]) -> bool {
     is_byte(room, 13, number)
-        & (check::same(part(room, 14), indices)
-            & (check::same(part(room, 15), out) & are_cells(room, 16, cells)))
+        & ((part(room, 14) == indices) & ((part(room, 15) == out) & are_cells(room, 16, cells)))
 }
 
 fn quantized(

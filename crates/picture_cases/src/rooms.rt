@@ -31,7 +31,7 @@ fn collected(reducing: Reducing, room: &[u8], places: &mut [u8], oklab: &mut [f3
         return false;
     }
     let answer = call(reducing, room, places, oklab);
-    is_answer(room, answer) & (check::same(part(room, 12), places) & are_floats(room, 13, oklab))
+    is_answer(room, answer) & ((part(room, 12) == places) & are_floats(room, 13, oklab))
 }
 
 // c: reduction scale shift reducing width height pixels opaque places oklab | number count places oklab

@@ -1,6 +1,8 @@
 // Quantizing a picture to a palette: `quantize_pixels` of src/dither.rs. The picture is drawn into the lent pixels as
 // reduced colours, and each pixel's index, which is its choice's position in the palette, beside them; then the colours are
 // finished.
+#![tactic(auto)]
+
 ghost use Rattle.std.specs.Prelude.{◌≡◌, ◌≤◌, length};
 ghost use Rattle.replies.specs.Replies.{first_reply};
 ghost use Rattle.drawing.specs.Lent.{cells_after};
@@ -12,14 +14,14 @@ use drawing::{ColorZero, Ditherer};
 use reducing::Reducing;
 
 // What `quantize_pixels` answers.
-#[derive(Drop)]
+#[derive(Clone, Copy)]
 pub enum Quantization {
     Accepted,
     Refused(u8),
 }
 
 // How long each lent buffer is.
-#[derive(Drop)]
+#[derive(Clone, Copy)]
 pub struct Lengths {
     pub reduction: usize,
     pub scale: usize,

@@ -1,6 +1,8 @@
 // The recorded cases of the lookups over records, replayed. A case has the tokens of the flat lookup's case (crate
 // `cases`): the list's reduced, normalised and Oklab colours, what is asked, and what the original answered, whose
 // positions say which records have to come back. A case whose tokens do not fit, or with more than 300 records, differs.
+#![tactic(auto)]
+
 ghost use Rattle.std.specs.Prelude.{◌≡◌, ◌≤◌, take};
 ghost use Rattle.record_cases.specs.Asked.{three_of, Asked};
 
@@ -66,7 +68,7 @@ fn is_list(room: &[u8]) -> bool {
 // ---- the lookups
 
 // What the three lookups answer.
-#[derive(Drop)]
+#[derive(Clone, Copy)]
 pub struct Three {
     pub near: FoundRecord,
     pub two: FoundRecords,

@@ -4,7 +4,9 @@
 //
 // The tokens of a line are read into a room: byte 62 says how many there are, or 255 where the line is malformed; the two
 // bytes at 2 * k say where token k ends; the bytes of the tokens lie one after the other from byte 64 on.
-ghost use Rattle.std.specs.Prelude.{◌<◌, ◌≤◌};
+#![tactic(auto)]
+
+ghost use Rattle.std.specs.Prelude.{◌<◌, ◌≤◌, length};
 
 use color::ReducedColor;
 
@@ -28,6 +30,23 @@ pub fn piece(bytes: &[u8], from: usize, to: usize) -> &[u8] {
         }
     }
     &bytes[..0]
+}
+
+// The place of the first such byte from `from` on; the slice's end where there is none. No public call: the caller sees to
+// the place.
+pub fn find(bytes: &[u8], from: usize, byte: u8) -> usize
+    requires { from ≤ length bytes.now }
+    ensures low { from ≤ result }
+    ensures high { result ≤ length bytes.now }
+{
+    let mut i = from;
+    while i < bytes.len() {
+        if bytes[i] == byte {
+            return i;
+        }
+        i += 1;
+    }
+    i
 }
 
 // The place after a line from `at` up to `end`, past its newline. No public call: the caller sees to the places.
@@ -143,7 +162,7 @@ pub fn clear(room: &mut [u8]) {
 pub fn decode(line: &[u8], room: &mut [u8]) {
     let mut at = 1;
     while at < line.len() {
-        let end = bytes::scan::find(line, at + 1, line.len(), b' ');
+        let end = find(line, at + 1, b' ');
         token(&line[at..end], room);
         at = end;
     }

@@ -1,6 +1,8 @@
 // The lookups over the caller's list of candidate records: `nearest`, `nearest_two` and `ordered_bracket` of src/dither.rs, with
 // its names and orders of parameters. `found_in` reads the list, one record at a time, by its position. Which record is wanted
 // next is in `search`, what is made of it in `firsts` and `others`, and what is answered in `answers`.
+#![tactic(auto)]
+
 mod answers;
 mod firsts;
 mod others;
@@ -18,21 +20,21 @@ use search::{Asked, Both, ask, begin, found, nothing, wanted};
 use turns::turn;
 
 // A record that is taken: its copy, and its position in the list.
-#[derive(Drop)]
+#[derive(Clone, Copy)]
 pub struct Taken {
     pub copy: CandidateColor,
     pub position: usize,
 }
 
 // What `nearest` answers.
-#[derive(Drop)]
+#[derive(Clone, Copy)]
 pub enum FoundRecord {
     Chosen(Taken),
     Refused(u8),
 }
 
 // What `nearest_two` answers.
-#[derive(Drop)]
+#[derive(Clone, Copy)]
 pub enum FoundRecords {
     Two(Taken, Taken),
     One(Taken),

@@ -12,7 +12,7 @@ use conversion::to_oklab;
 use lookup::{Best, count_fits};
 
 // What is asked of a list: the colour, the same in Oklab, the list's length, the width, and whether a second is wanted.
-#[derive(Drop)]
+#[derive(Clone, Copy)]
 pub struct Asked {
     pub color: NormalizedColor,
     pub target: Oklab,
@@ -23,7 +23,7 @@ pub struct Asked {
 
 // What is found: the list's number; the nearest record's position and a copy of it; whether there is a second, and the same
 // of it.
-#[derive(Drop)]
+#[derive(Clone, Copy)]
 pub struct Both {
     pub color: NormalizedColor,
     pub number: u8,
@@ -35,7 +35,7 @@ pub struct Both {
 }
 
 // The shortlist: positions and distances.
-#[derive(Drop)]
+#[derive(Clone, Copy)]
 pub struct Kept {
     pub count: usize,
     pub positions: [usize; 16],
@@ -45,7 +45,7 @@ pub struct Kept {
 // How far a search has come: what it has found so far; whether it looks for the nearest (0), reads it (1), makes the shortlist
 // (2), weighs its records (3) or reads the second (4); which record is read next, and which of the shortlist that is; how far
 // the nearest so far is; and the best of those weighed.
-#[derive(Drop)]
+#[derive(Clone, Copy)]
 pub struct Search {
     pub asked: Asked,
     pub both: Both,

@@ -1,6 +1,8 @@
 // How a colour reduces to a mode's own precision: by its alpha, to a grey, or as an opaque colour; and which of these goes
 // with which shift. `reduce_color` is named as in src/mode/color.rs, where it is asked for a mode and a rounding: here it takes
 // the mode's reduction and the lent table. `luma_u8` (luma.rt) is that of src/color.rs. All else is added.
+#![tactic(auto)]
+
 mod luma;
 
 ghost use Rattle.std.specs.Prelude.{◌≡◌, length};
@@ -11,7 +13,7 @@ use luma::luma_u8;
 
 // How the modes reduce a colour. `ByAlpha`: the colour itself, and transparent where its alpha is below 128. `Grey`: the luma
 // of an opaque colour, in all three channels. `OpaqueColor`: an opaque colour's own channels.
-#[derive(Drop)]
+#[derive(Clone, Copy)]
 pub enum Reducing {
     ByAlpha,
     Grey,

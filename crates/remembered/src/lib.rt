@@ -2,6 +2,8 @@
 // brackets, and document 01 has them worked out anew; here is a lent table of 256 words, one for each hash, behind them the
 // position that was found last, which is where the next search begins, and then 128 rows of shortlists. What is answered is
 // what would be worked out anew, so no promise of a call mentions the table.
+#![tactic(auto)]
+
 mod seconds;
 mod shorts;
 

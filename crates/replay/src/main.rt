@@ -1,13 +1,16 @@
 // Replays the recorded list of the original's answers, read from standard input, against our calls. Prints one line a
 // group: its name, how many cases it has, and "same", or "differs at" and the number of the first case that differs.
 // A line of the list is a comment (#), the name of a group (g), the two lent tables for the cases after it (k), or a case.
-ghost use Rattle.std.specs.Prelude.{◌≡◌, length};
+#![tactic(auto)]
 
-use libc::{STDIN_FILENO, STDOUT_FILENO};
+ghost use Rattle.std.specs.Prelude.{◌≡◌, ◌≤◌, IfOk, length};
+
+use std::io;
+use std::io::{Read, Write};
 
 // What the group that is open has come to: its cases so far, and the number of the first that differs, 0 where there is
 // none; and where the line of the tables stands in the list.
-#[derive(Drop)]
+#[derive(Clone, Copy)]
 struct State {
     open: bool,
     count: u64,
@@ -71,23 +74,21 @@ impl State {
     }
 }
 
-fn verdict(first: u64) {
+fn verdict(rt: &impl Print, first: u64) -> io::Result<()> {
     if first == 0 {
-        io::write_all(STDOUT_FILENO, b" same\n");
-        return;
+        return println!(rt; " same");
     }
-    io::write_all(STDOUT_FILENO, b" differs at ");
-    io::print_decimal(STDOUT_FILENO, first);
-    io::write_all(STDOUT_FILENO, b"\n");
+    println!(rt; " differs at {first}")
 }
 
 // Ends a group's line.
-fn told(s: State) {
+fn told(rt: &impl Print, s: State) -> io::Result<()> {
     if s.open {
-        io::write_all(STDOUT_FILENO, b" ");
-        io::print_decimal(STDOUT_FILENO, s.count);
-        verdict(s.first);
+        let count = s.count;
+        print!(rt; " {count}")?;
+        verdict(rt, s.first)?;
     }
+    Ok(())
 }
 
 // The line of the tables, where the call is lent them.
@@ -113,32 +114,39 @@ fn same(tables: &[u8], line: &[u8], letter: u8, room: &mut [u8]) -> bool {
 }
 
 // The line from `from` up to `to`.
-fn turn(list: &[u8], from: usize, to: usize, s: State, room: &mut [u8]) -> State {
+fn turn(
+    rt: &impl Print,
+    list: &[u8],
+    from: usize,
+    to: usize,
+    s: State,
+    room: &mut [u8],
+) -> io::Result<State> {
     let line = recorded::piece(list, from, to);
     let letter = recorded::byte_at(line, 0);
     if letter == b'#' {
-        return s;
+        return Ok(s);
     }
     if letter == b'k' {
-        return s.lent(from, to);
+        return Ok(s.lent(from, to));
     }
     if letter == b'g' {
-        told(s);
-        io::write_all(STDOUT_FILENO, recorded::piece(line, 2, line.len()));
-        return s.named();
+        told(rt, s)?;
+        io::writer(rt).write_all(recorded::piece(line, 2, line.len()))?;
+        return Ok(s.named());
     }
-    s.counted(same(tables(list, letter, s), line, letter, room))
+    Ok(s.counted(same(tables(list, letter, s), line, letter, room)))
 }
 
-fn replay(list: &[u8], room: &mut [u8]) {
+fn replay(rt: &impl Print, list: &[u8], room: &mut [u8]) -> io::Result<()> {
     let mut s = State::new();
     let mut at = 0;
     while at < list.len() {
-        let end = bytes::scan::find(list, at, list.len(), b'\n');
-        s = turn(list, at, end, s, room);
+        let end = recorded::find(list, at, b'\n');
+        s = turn(rt, list, at, end, s, room)?;
         at = recorded::past(at, end, list.len());
     }
-    told(s);
+    told(rt, s)
 }
 
 // Room for the whole list.
@@ -148,9 +156,25 @@ fn list_buffer() -> [u8; 600000]
     [0; 600000]
 }
 
-fn main() {
+// Reads standard input into the buffer, to the end of either. Answers how many bytes there are.
+fn read_full(rt: &impl Input, buf: &mut [u8]) -> io::Result<usize>
+    ensures { IfOk result (λ n. n ≤ length buf.new) }
+{
+    let mut reader = rt.reader();
+    let mut n = 0;
+    while n < buf.len() {
+        let more = reader.read(&mut buf[n..])?;
+        if more == 0 {
+            return Ok(n);
+        }
+        n += more;
+    }
+    Ok(n)
+}
+
+fn main(rt: HostRuntime) -> io::Result<()> {
     let mut list = list_buffer();
-    let n = io::read_full(STDIN_FILENO, &mut list);
+    let n = read_full(&rt, &mut list)?;
     let mut room = [0u8; 32768];
-    replay(&list[..n], &mut room);
+    replay(&rt, &list[..n], &mut room)
 }

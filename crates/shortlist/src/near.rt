@@ -10,7 +10,7 @@ use super::away::{distance_to, eight_farther};
 use color::Oklab;
 
 // The entry in front so far, and its distance.
-#[derive(Drop)]
+#[derive(Clone, Copy)]
 struct Leader {
     position: usize,
     distance: f32,
