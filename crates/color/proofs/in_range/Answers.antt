@@ -1,0 +1,9 @@
+-- `color::in_range` meets its contract: its two tests are the definition's. Assumes nothing.
+use mathlib.Core.Path.{refl}
+use lib.Ieee.{of_bits}
+use Rattle.color.specs.Oklab.{in_range}
+use Rattle.color.proofs.in_range.Goals as goal
+
+pub returns : goal.returns
+unfolding in_range of_bits
+returns c = refl

@@ -1,0 +1,14 @@
+-- `picture::red_at` meets its contract: the lent red through the table, which is that of the reduced colour where the pixel is seen and its channels are kept.
+-- Assumes nothing.
+use mathlib.Core.Path.{ap, ◌∙◌}
+use lib.ListN.{get_or}
+use Rattle.color.specs.declared.NormalizedColor.{NormalizedColor}
+use Rattle.picture.proofs.PixelLaws.{seen_red}
+use Rattle.picture.proofs.red_at.Goals as goal
+
+pub returns : goal.returns
+returns c =
+    let s = c in
+    let a = s.args in
+    λ by kept seen. c.looked_up.ensures ∙ ap (λ (x : NormalizedColor). get_or a.reduction.now x.0.r 0) s.source_at-c.ensures
+    ∙ seen_red by a.reduction.now a.basis.now a.i kept seen
