@@ -1,0 +1,66 @@
+-- The answers for `Ditherer::draw_diffused`: its contract follows from its invariants.
+use Prim.Native.Nat.{◌*◌}
+use mathlib.Core.Path.{◌≡◌, sym, ap, ◌∙◌}
+use native.Mathlib.Omega.{arith}
+use Rattle.lists.proofs.FillLaws.{fill_begin}
+use Rattle.drawing.specs.Turns.{cells_before}
+use Rattle.drawing.proofs.OutputLaws.{out_more, out_all}
+use Rattle.drawing.proofs.PositionLaws.{note_begin, note_more, note_done}
+use Rattle.drawing.proofs.TurnLaws.{turn_begin, turn_length}
+use Rattle.drawing.proofs.Ditherer.draw_diffused.Goals as goal
+
+pub loop-i-init : goal.loop-i-init
+loop-i-init c =
+    let p = c.requires in
+    (fill_begin 4 _ _, turn_begin _ _ _ p.5 c.zero_i16s.ensures, p.6, note_begin _ _)
+
+pub diffused_pixel-chosen-requires : goal.diffused_pixel-chosen-requires
+diffused_pixel-chosen-requires c =
+    let l = c.before.before in
+    let p = l.requires in
+    (p.0, p.1, p.2, p.3, l.loop-i-test.true, l.loop-i.invariant.1, l.loop-i.invariant.2)
+
+pub put_rgba-requires : goal.put_rgba-requires
+put_rgba-requires c =
+    let l = c.before.before.before.before.before in
+    omega (arith, l.loop-i.invariant.0.long, l.requires.4, l.loop-i-test.true)
+
+pub overflow_add-i : goal.overflow_add-i
+overflow_add-i c =
+    let l = c.before.before.before.before.before.before.before.before.before.before.before.before in
+    omega (arith, l.requires.1.few, l.loop-i-test.true)
+
+pub loop-i-smaller : goal.loop-i-smaller
+loop-i-smaller c = omega (arith, c.loop-i-test.true)
+
+pub loop-i-preserved : goal.loop-i-preserved
+loop-i-preserved c =
+    let put = c in
+    let chosen = put.diffused_pixel-chosen.ensures in
+    let l = put.before.before.before.before.before.before in
+    let inv = l.loop-i.invariant in (
+      out_more _ _ _ _ l.requires.4 inv.0 _ _ l.loop-i-test.true chosen.0.color put.put_rgba.ensures,
+      chosen.1,
+      chosen.2,
+      note_more _ _ _ _ inv.3 _ _ l.loop-i-test.true chosen.0 c.note_position.ensures,
+    )
+
+pub shape_of-indices : goal.shape_of-indices
+shape_of-indices c = c.loop-i.invariant.3.long
+
+pub shape_of-out : goal.shape_of-out
+shape_of-out c = c.loop-i.invariant.0.long
+
+pub shape_of-cells : goal.shape_of-cells
+shape_of-cells c =
+    let l = c.loop-i in
+    let p = c.requires in
+    turn_length _ _ _ (omega (arith, l.invariant.0.within, p.4)) l.invariant.1 ∙ sym p.5
+
+pub returns : goal.returns
+returns c =
+    let l = c.loop-i in
+    let b = c in
+    let p = b.requires in
+    let e : l.i ≡ b.args.self.width * b.args.self.height = omega (arith, l.invariant.0.within, p.4, c.loop-i-test.false) in
+    (out_all _ _ _ _ p.4 l.invariant.0 c.loop-i-test.false, l.invariant.1 ∙ ap (cells_before _) e, note_done _ _ _ _ l.invariant.3 e)

@@ -1,0 +1,21 @@
+-- The answers for `writes_floats`: its contract follows from its invariants.
+use native.Mathlib.Omega.{arith}
+use Rattle.recorded.proofs.writes_floats.Goals as goal
+
+pub loop-i-init : goal.loop-i-init
+loop-i-init c = omega arith
+
+pub offset_bounds-floats-i : goal.offset_bounds-floats-i
+offset_bounds-floats-i c = omega arith
+
+pub bounds-floats-i : goal.bounds-floats-i
+bounds-floats-i c = omega arith
+
+pub overflow_add-i : goal.overflow_add-i
+overflow_add-i c = omega arith
+
+pub loop-i-smaller : goal.loop-i-smaller
+loop-i-smaller c = omega arith
+
+pub loop-i-preserved : goal.loop-i-preserved
+loop-i-preserved c = omega arith
