@@ -6,6 +6,7 @@ pub mod FlatLaws
 pub mod AgreeLaws
 pub mod AnswerLaws
 pub mod TakenLaws
+pub mod Measure
 pub mod Told
 mod Said
 mod LookupCalls

@@ -2,6 +2,7 @@
 use mathlib.Core.Path.{sym, ap, ◌∙◌}
 use Prim.Native.Nat.{◌+◌}
 use native.Mathlib.Omega.{arith}
+use borrow.Author.Rules.{rules}
 use lib.ListN.{length-map}
 use Rattle.color.specs.declared.CandidateColor.{CandidateColor}
 use Rattle.color.specs.Oklab.{sqdist_of}
@@ -18,8 +19,8 @@ put-count-requires c =
     let w = c.clamp_width-w in (
       omega (arith, w.ensures, clamp_low s.args.s.asked.width),
       omega (arith, w.ensures, clamp_high s.args.s.asked.width),
-      sym (length-map s.args.kept.positions _) ∙ s.well_formed.0.1.1.1.0.1.0.1,
-      sym (length-map s.args.kept.far _) ∙ s.well_formed.0.1.1.1.1.0.1.0.1,
+      search rules,
+      search rules,
     )
 
 pub returns : goal.returns

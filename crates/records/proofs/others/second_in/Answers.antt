@@ -1,5 +1,6 @@
 -- `others::second_in` meets its contract: `second_by`'s answer, for a shortlist that fits. Assumes nothing.
 use native.Mathlib.Omega.{arith}
+use borrow.Author.Rules.{rules}
 use mathlib.Core.Path.{sym, ◌∙◌}
 use lib.ListN.{length-map}
 use Rattle.records.proofs.others.second_in.Goals as goal
@@ -8,7 +9,7 @@ pub second_by-requires : goal.second_by-requires
 second_by-requires c =
     let s = c in (
       c.if-kept-le16.true,
-      sym (length-map s.args.kept.positions _) ∙ s.well_formed.1.0.1.1.1.0.1.0.1,
+      search rules,
     )
 
 pub returns-then-kept-le16 : goal.returns-then-kept-le16

@@ -1,4 +1,6 @@
 -- `search::begin` meets its contract: the list has its number already, or the first record is wanted. Assumes nothing.
+use mathlib.Core.Path.{ap}
+use mathlib.Core.Bool.{not}
 use mathlib.Core.Logic.{inr}
 use native.Mathlib.Omega.{arith}
 use Prim.Native.Nat.{◌+◌}
@@ -14,7 +16,7 @@ returns-then-not-count_fits c list kept asks empty =
       0,
       inr (inr (inr (inr (inr (record {
         found = refused list c.args.asked s.result.both 3 e.1 e.2 (count_refused list (count_fails f.ensures
-            asks.len c.if-not-count_fits.true));
+            asks.len (ap not c.if-not-count_fits.true)));
         done = omega (arith, e.5, asks.len);
       }))))),
     )
@@ -25,6 +27,6 @@ returns c list kept asks empty =
     let s = c.start-2 in
     let e = s.ensures in (
       length list + length list + 20,
-      begun list c.args.asked kept s.result asks empty (count_holds f.ensures asks.len c.if-not-count_fits.false)
+      begun list c.args.asked kept s.result asks empty (count_holds f.ensures asks.len (ap not c.if-not-count_fits.false))
           e.0 e.1 e.2 e.3 e.4 e.5 e.6,
     )
