@@ -81,8 +81,7 @@ fn together(near: FoundRecord, two: FoundRecords, bracket: FoundBracket) -> Thre
     Three { near, two, bracket }
 }
 
-// Asks the lookups about the first n records. No other function here lends a list of records: the borrow checker covers
-// none that does, so this one is proved by hand.
+// Asks the lookups about the first n records.
 fn asked(list: [CandidateColor; 300], n: usize, color: NormalizedColor, width: u64) -> Three
     requires { n ≤ 300 }
     ensures { Asked (take n list) color width result }

@@ -7,8 +7,4 @@ pub mod AgreeLaws
 pub mod AnswerLaws
 pub mod TakenLaws
 pub mod Measure
-pub mod Told
-mod Said
-mod LookupCalls
-mod LookupWalk
 pub mod Unique

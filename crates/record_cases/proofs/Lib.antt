@@ -1,2 +1,0 @@
--- The laws of `record_cases`.
-pub mod Lending
