@@ -9,7 +9,6 @@ use lib.Dec.{T}
 use lib.ListN.{length, get_or}
 use lib.Ieee.{Float, lt}
 use Rattle.lists.specs.Least.{Least}
-use Rattle.lists.proofs.Bools.{holds}
 use Rattle.replies.specs.Replies.{first_reply, FirstReply, Lowest}
 use Rattle.replies.proofs.AnswerLaws.{answered, answers_first, answers_lowest, value_refused, value_granted}
 use Rattle.color.specs.declared.NormalizedColor.{NormalizedColor}

@@ -1,16 +1,10 @@
 -- The answers for `checks::outside_from`: its contract follows from its invariants.
 use mathlib.Core.Path.{sym, ap, ◌∙◌}
 use mathlib.Core.Bool.{Bool, true, false, not}
-use mathlib.Core.List.{List}
-use Prim.Native.Nat.{ℕ}
 use lib.Dec.{T}
-use lib.Ieee.{Float}
 use Rattle.lists.proofs.FirstLaws.{search_next, search_found, search_missed}
 use Rattle.lookup.specs.Lists.{inside_at, first_outside}
 use Rattle.lookup.proofs.checks.outside_from.Goals as goal
-
-abbrev outside : List Float → ℕ → Bool
-outside xs k = not (inside_at xs k)
 
 twice : (t : Bool) → T t → T (not (not t))
 twice true h = h
@@ -23,12 +17,12 @@ pub returns-then-not-inside_at : goal.returns-then-not-inside_at
 unfolding first_outside
 returns-then-not-inside_at c =
     search_found c.loop-i.invariant c.loop-i-test.true
-    (ap not (sym c.inside_at.ensures) ∙ c.if-not-inside_at.true)
+    (ap not (sym c.inside_at.ensures ∙ c.if-not-inside_at.true))
 
 pub loop-i-preserved : goal.loop-i-preserved
 loop-i-preserved c =
     search_next c.loop-i.invariant c.loop-i-test.true
-    (ap not (sym c.inside_at.ensures) ∙ c.if-not-inside_at.false)
+    (ap not (sym c.inside_at.ensures ∙ c.if-not-inside_at.false))
 
 pub returns : goal.returns
 unfolding first_outside

@@ -8,22 +8,23 @@ use Rattle.lookup.specs.Second.{those, mixable, mix_error}
 use Rattle.lookup.proofs.SecondLaws.{second_found, second_front, second_nothing}
 use Rattle.lookup.proofs.seconds.second_by.Goals as goal
 
-abbrev passing : goal.Start → (ℕ → NormalizedColor) → ℕ → NormalizedColor → List ℕ
-passing s n a color = those (mixable n a color) (take s.args.count s.args.positions.now)
+abbrev passing : (positions : List ℕ) (count : ℕ) → (ℕ → NormalizedColor) → ℕ → NormalizedColor → List ℕ
+passing positions count n a color = those (mixable n a color) (take count positions)
 
 pub returns-then-best-ne0 : goal.returns-then-best-ne0
 returns-then-best-ne0 c = λ n a color h.
-    let s = c.before.before in
-    second_found (mix_error n a color) s.args.best (passing s n a color) (take s.args.count s.args.positions.now) h c.if-best-ne0.true
+    let s = c.args in
+    second_found (mix_error n a color) s.best (passing s.positions.now s.count n a color) (take s.count s.positions.now) h c.if-best-ne0.true
 
 pub returns-then-count-gt0 : goal.returns-then-count-gt0
 returns-then-count-gt0 c = λ n a color h.
-    let s = c.before.before.before.before in
-    second_front (mix_error n a color) s.args.best (passing s n a color) s.args.positions.now s.args.count h c.if-best-ne0.false
+    let s = c.args in
+    second_front (mix_error n a color) s.best (passing s.positions.now s.count n a color) s.positions.now s.count h c.if-best-ne0.false
     c.if-count-gt0.true
-    (omega (arith, s.requires.0, s.requires.1))
+    (omega (arith, c.requires.0, c.requires.1))
 
 pub returns : goal.returns
 returns c = λ n a color h.
-    let s = c.before.before.before in
-    second_nothing (mix_error n a color) s.args.best (passing s n a color) s.args.positions.now s.args.count h c.if-best-ne0.false c.if-count-gt0.false
+    let s = c.args in
+    second_nothing (mix_error n a color) s.best (passing s.positions.now s.count n a color) s.positions.now s.count h c.if-best-ne0.false
+    c.if-count-gt0.false
