@@ -6,13 +6,10 @@ use Rattle.remembered.proofs.TableLaws.{table_pair}
 use borrow.Author.Rules.{rules}
 use Rattle.remembered.proofs.recalled.Goals as goal
 
-bytes : (c : goal.Start) → Bytes c.args.c
-bytes c = record { r = search rules; g = search rules; b = search rules }
-
 pub returns-then-word-key : goal.returns-then-word-key
 returns-then-word-key c =
-    λ f kept _. table_pair f _ kept _ _ (bytes c.before.before.before.before) c.slot_of.ensures
-    (c.if-word-key.true ∙ c.key_of-key.ensures.0)
+    let s : Bytes c.args.c = record { r = search rules; g = search rules; b = search rules } in
+    λ f kept _. table_pair f _ kept _ _ s c.slot_of.ensures (c.if-word-key.true ∙ c.key_of-key.ensures.0)
 
 pub returns : goal.returns
 returns c = λ f kept l. absurd (omega arith)
