@@ -12,7 +12,7 @@ pub loop-i-init : goal.loop-i-init
 loop-i-init c = fill_begin 4 _ _
 
 pub rgba_at-requires : goal.rgba_at-requires
-rgba_at-requires c = let h = c.loop.invariant.long in omega arith
+rgba_at-requires c = let h = c.loop-i.invariant.long in omega arith
 
 pub is_seen-seen-requires : goal.is_seen-seen-requires
 is_seen-seen-requires c = let p = c.requires in omega (arith, p.source)

@@ -1,37 +1,29 @@
 -- `drawing::Ditherer::color_at` meets its contract: the bracket's pick for an ordered kind, and else the nearest. Assumes nothing.
-use mathlib.Core.Path.{◌≡◌, sym, ◌∙◌}
-use mathlib.Core.Bool.{Bool, true, false}
-use Rattle.patterns.specs.Kinds.{is_ordered}
+use mathlib.Core.Path.{sym, ◌∙◌}
+use mathlib.Core.Bool.{true, false}
 use Rattle.drawing.specs.Drawing.{color_at}
 use Rattle.drawing.proofs.StepLaws.{remembers_as, remembers_of}
 use Rattle.drawing.proofs.Ditherer.color_at.Goals as goal
 
-kind_is : (c : goal.After-is_ordered) (t : Bool) → c.is_ordered.result ≡ t → is_ordered c.args.self.kind ≡ t
-kind_is c t e = sym c.is_ordered.ensures ∙ e
-
 pub ordered_color_at-requires : goal.ordered_color_at-requires
 ordered_color_at-requires c =
-    let k = c.before.before in
-    let p = k.requires in
-    let e = kind_is k true c.if-is_ordered.true in
-    (p.0, p.1, p.2, e, remembers_as k.args.self _ _ true e p.3)
+    let p = c.requires in
+    let e = sym c.is_ordered.ensures ∙ c.if-is_ordered.true in
+    (p.0, p.1, p.2, e, remembers_as c.args.self _ _ true e p.3)
 
 pub returns-then-is_ordered : goal.returns-then-is_ordered
 unfolding color_at
 returns-then-is_ordered c =
-    let k = c.before.before.before in
-    let e = kind_is k true c.if-is_ordered.true in
-    (rw e c.ordered_color_at.ensures.0, remembers_of k.args.self _ _ true e c.ordered_color_at.ensures.1)
+    let e = sym c.is_ordered.ensures ∙ c.if-is_ordered.true in
+    (rw e c.ordered_color_at.ensures.0, remembers_of c.args.self _ _ true e c.ordered_color_at.ensures.1)
 
 pub nearest_color-requires : goal.nearest_color-requires
 nearest_color-requires c =
-    let k = c.before.before in
-    let p = k.requires in
-    (p.0, p.1, remembers_as k.args.self _ _ false (kind_is k false c.if-is_ordered.false) p.3)
+    let p = c.requires in
+    (p.0, p.1, remembers_as c.args.self _ _ false (sym c.is_ordered.ensures ∙ c.if-is_ordered.false) p.3)
 
 pub returns : goal.returns
 unfolding color_at
 returns c =
-    let k = c.before.before.before in
-    let e = kind_is k false c.if-is_ordered.false in
-    (rw e c.nearest_color.ensures.0, remembers_of k.args.self _ _ false e c.nearest_color.ensures.1)
+    let e = sym c.is_ordered.ensures ∙ c.if-is_ordered.false in
+    (rw e c.nearest_color.ensures.0, remembers_of c.args.self _ _ false e c.nearest_color.ensures.1)

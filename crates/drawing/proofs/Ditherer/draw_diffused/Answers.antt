@@ -16,33 +16,26 @@ loop-i-init c =
 
 pub diffused_pixel-chosen-requires : goal.diffused_pixel-chosen-requires
 diffused_pixel-chosen-requires c =
-    let l = c.before.before in
-    let p = l.requires in
-    (p.0, p.1, p.2, p.3, l.loop-i-test.true, l.loop-i.invariant.1, l.loop-i.invariant.2)
+    let p = c.requires in
+    (p.0, p.1, p.2, p.3, c.loop-i-test.true, c.loop-i.invariant.1, c.loop-i.invariant.2)
 
 pub put_rgba-requires : goal.put_rgba-requires
-put_rgba-requires c =
-    let l = c.before.before.before.before.before in
-    omega (arith, l.loop-i.invariant.0.long, l.requires.4, l.loop-i-test.true)
+put_rgba-requires c = omega (arith, c.loop-i.invariant.0.long, c.requires.4, c.loop-i-test.true)
 
 pub overflow_add-i : goal.overflow_add-i
-overflow_add-i c =
-    let l = c.before.before.before.before.before.before.before.before.before.before.before.before in
-    omega (arith, l.requires.1.few, l.loop-i-test.true)
+overflow_add-i c = omega (arith, c.requires.1.few, c.loop-i-test.true)
 
 pub loop-i-smaller : goal.loop-i-smaller
 loop-i-smaller c = omega (arith, c.loop-i-test.true)
 
 pub loop-i-preserved : goal.loop-i-preserved
 loop-i-preserved c =
-    let put = c in
-    let chosen = put.diffused_pixel-chosen.ensures in
-    let l = put.before.before.before.before.before.before in
-    let inv = l.loop-i.invariant in (
-      out_more _ _ _ _ l.requires.4 inv.0 _ _ l.loop-i-test.true chosen.0.color put.put_rgba.ensures,
+    let chosen = c.diffused_pixel-chosen.ensures in
+    let inv = c.loop-i.invariant in (
+      out_more _ _ _ _ c.requires.4 inv.0 _ _ c.loop-i-test.true chosen.0.color c.put_rgba.ensures,
       chosen.1,
       chosen.2,
-      note_more _ _ _ _ inv.3 _ _ l.loop-i-test.true chosen.0 c.note_position.ensures,
+      note_more _ _ _ _ inv.3 _ _ c.loop-i-test.true chosen.0 c.note_position.ensures,
     )
 
 pub shape_of-indices : goal.shape_of-indices

@@ -9,28 +9,24 @@ pub loop-i-init : goal.loop-i-init
 loop-i-init c = (fill_begin 4 _ _, c.requires.5, note_begin _ _)
 
 pub pixel_color-c-requires : goal.pixel_color-c-requires
-pixel_color-c-requires c = let p = c.before.pre in (p.0, p.1, p.2, p.3, c.loop-i-test.true, c.loop-i.invariant.1)
+pixel_color-c-requires c = let p = c.requires in (p.0, p.1, p.2, p.3, c.loop-i-test.true, c.loop-i.invariant.1)
 
 pub put_rgba-requires : goal.put_rgba-requires
-put_rgba-requires c = let l = c.before.before.before in omega (arith, l.loop-i.invariant.0.long, l.requires.4, l.loop-i-test.true)
+put_rgba-requires c = omega (arith, c.loop-i.invariant.0.long, c.requires.4, c.loop-i-test.true)
 
 pub overflow_add-i : goal.overflow_add-i
-overflow_add-i c =
-    let l = c.before.before.before.before.before.before.before.before.before.before in
-    omega (arith, l.requires.1.few, l.loop-i-test.true)
+overflow_add-i c = omega (arith, c.requires.1.few, c.loop-i-test.true)
 
 pub loop-i-smaller : goal.loop-i-smaller
 loop-i-smaller c = omega (arith, c.loop-i-test.true)
 
 pub loop-i-preserved : goal.loop-i-preserved
 loop-i-preserved c =
-    let put = c in
-    let chosen = put.pixel_color-c.ensures in
-    let l = put.before.before.before.before in
-    let inv = l.loop-i.invariant in (
-      out_more _ _ _ _ l.requires.4 inv.0 _ _ l.loop-i-test.true chosen.0.color put.put_rgba.ensures,
+    let chosen = c.pixel_color-c.ensures in
+    let inv = c.loop-i.invariant in (
+      out_more _ _ _ _ c.requires.4 inv.0 _ _ c.loop-i-test.true chosen.0.color c.put_rgba.ensures,
       chosen.1,
-      note_more _ _ _ _ inv.2 _ _ l.loop-i-test.true chosen.0 c.note_position.ensures,
+      note_more _ _ _ _ inv.2 _ _ c.loop-i-test.true chosen.0 c.note_position.ensures,
     )
 
 pub shape_of-indices : goal.shape_of-indices
