@@ -6,7 +6,7 @@
 // bytes at 2 * k say where token k ends; the bytes of the tokens lie one after the other from byte 64 on.
 #![tactic(auto)]
 
-ghost use Rattle.std.specs.Prelude.{◌<◌, ◌≤◌, length};
+ghost use Rattle.std.specs.Prelude.{◌≡◌, ℕ, ◌<◌, ◌≤◌, ◌≢◌, length, slice_index};
 
 use color::ReducedColor;
 
@@ -38,15 +38,15 @@ pub fn find(bytes: &[u8], from: usize, byte: u8) -> usize
     requires { from ≤ length bytes.now }
     ensures low { from ≤ result }
     ensures high { result ≤ length bytes.now }
+    ensures before { (k : ℕ) → from ≤ k → k < result → slice_index bytes.now k ≢ byte }
+    ensures found { result < length bytes.now → slice_index bytes.now result ≡ byte }
 {
-    let mut i = from;
-    while i < bytes.len() {
+    for i in from..bytes.len() {
         if bytes[i] == byte {
             return i;
         }
-        i += 1;
     }
-    i
+    bytes.len()
 }
 
 // The place after a line from `at` up to `end`, past its newline. No public call: the caller sees to the places.
