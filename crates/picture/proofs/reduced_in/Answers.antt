@@ -1,4 +1,4 @@
--- `picture::reduced_in` meets its contract: each case is the definition'c. Assumes nothing.
+-- `picture::reduced_in` meets its contract: each case is the definition's. Assumes nothing.
 use mathlib.Core.Path.{◌≡◌, sym, ap, ◌∙◌, subst}
 use mathlib.Core.List.{List}
 use Prim.Native.Nat.{ℕ, ◌+◌, ◌*◌, ◌<◌}
