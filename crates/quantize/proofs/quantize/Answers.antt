@@ -1,9 +1,11 @@
 -- `quantize::quantize` meets its contract: the palette's Oklab, the drawn picture with the positions of its choices, and the choices finished. Assumes
 -- nothing.
 use mathlib.Core.Path.{◌≡◌, sym, ◌∙◌, ap, subst}
+use mathlib.Core.List.{List}
 use Prim.Native.Nat.{ℕ, ◌*◌, ◌<◌}
 use native.Mathlib.Omega.{arith}
 use lib.ListN.{length, get_or, take}
+use lib.Ieee.{Float}
 use Rattle.color.specs.Color.{reduced_at}
 use Rattle.conversion.proofs.ListLaws.{list_long, list_front}
 use Rattle.shortlist.specs.Candidates.{RangedList}
@@ -18,75 +20,53 @@ use Rattle.quantize.specs.Quantize.{Commission, commission, entries, palette_okl
 use Rattle.quantize.proofs.DrawnLaws.{palette_alike, positions_are, ready, finishable}
 use Rattle.quantize.proofs.quantize.Goals as goal
 
--- what was asked for, and lent
-abbrev asked : goal.Start → Commission
-asked s =
-    let a = s.args in
-    commission a.shift a.reducing a.kind a.width a.height a.reduction.now a.scale.now a.palette.now a.pixels.now a.opaque.now
-
-front : (c : goal.After-put_list_oklab)
-    → let q = asked c in take (3 * entries q) c.put_list_oklab.new.oklab ≡ palette_oklab q
-front c =
-    let q = asked c in
-    ap (take (3 * entries q)) c.put_list_oklab.ensures ∙ list_front q.scale (reduced_at q.palette) (entries q) _
-
-fit : (c : goal.After-put_list_oklab) → let q = asked c in RangedList (palette_oklab q) (entries q)
-fit c =
-    let q = asked c in
-    let read = c in
-    let bytes : (k : ℕ) → get_or q.scale k 0 < 256 = λ k. omega (arith, read.shared_slice_known-2-1.given k) in
-    list_fit q.scale (reduced_at q.palette) (entries q) bytes
-
--- where the drawing is called
-abbrev listed : goal.After-draw-arg-3-1 → goal.After-put_list_oklab
-listed c = c.before.before.before.before.before.before.before.before
+-- the palette's Oklab is in range, where the scale table holds bytes
+fit : (q : Commission) → ((k : ℕ) → get_or q.scale k 0 < 256) → RangedList (palette_oklab q) (entries q)
+fit q bytes = list_fit q.scale (reduced_at q.palette) (entries q) bytes
 
 -- the picture that is drawn is the one that is promised
-same_picture : (c : goal.After-draw-arg-3-1) → let q = asked (listed c) in
-    drawing_of (ditherer_of q c.width_of_lem.result) Absent
-    (lent_of q (take (3 * entries q) (listed c).put-list-oklab.new.1.1.1.1.0))
-    ≡ quantizing q
-same_picture c =
-    let q = asked (listed c) in
-    λ t. drawing_of (ditherer_of q (c.width_of_lem.ensures t)) Absent (lent_of q (front (listed c) t))
-
-drawn_over : (c : goal.After-draw) → c.draw.new.cells ≡ reduced_bytes (quantizing (asked (listed c.before)))
-drawn_over c = c.draw.ensures.0 ∙ ap reduced_bytes (same_picture c.before)
+same_picture : (q : Commission) {width : ℕ} {oklab : List Float} → width ≡ width_of q.shift (entries q) → oklab ≡ palette_oklab q
+    → drawing_of (ditherer_of q width) Absent (lent_of q oklab) ≡ quantizing q
+same_picture q w o = λ t. drawing_of (ditherer_of q (w t)) Absent (lent_of q (o t))
 
 pub slice_bounds-oklab-end-2 : goal.slice_bounds-oklab-end-2
 slice_bounds-oklab-end-2 c =
-    let p = c.before.before.before.before in
-    let q = asked p in
-    sym (ap length (front p) ∙ list_long q.scale (reduced_at q.palette) (entries q))
+    let a = c.args in
+    let q = commission a.shift a.reducing a.kind a.width a.height a.reduction.now a.scale.now a.palette.now a.pixels.now a.opaque.now in
+    let front = ap (take (3 * entries q)) c.put_list_oklab.ensures ∙ list_front q.scale (reduced_at q.palette) (entries q) _ in
+    sym (ap length front ∙ list_long q.scale (reduced_at q.palette) (entries q))
 
 pub draw-requires : goal.draw-requires
 draw-requires c =
-    let s = began (listed c) in
-    let a = s.args in
-    let f = s.pre.0 in (
-      record { is = (listed c).before.before.before.linear-table.ensures },
-      ready (asked s) a.indices.now a.out.now a.cells.now f (fit (listed c)) _ _ (front (listed c)),
+    let a = c.args in
+    let q = commission a.shift a.reducing a.kind a.width a.height a.reduction.now a.scale.now a.palette.now a.pixels.now a.opaque.now in
+    let front = ap (take (3 * entries q)) c.put_list_oklab.ensures ∙ list_front q.scale (reduced_at q.palette) (entries q) _ in
+    let f = c.requires.0 in (
+      record { is = c.linear_table-linear.ensures },
+      ready q a.indices.now a.out.now a.cells.now f (fit q (λ k. omega (arith, c.type_inv.scale k))) _ _ front,
       f.out,
       f.cells,
     )
 
 pub finish-requires : goal.finish-requires
 finish-requires c =
-    let d = c.before.before.before.before.before.before.before in
-    let s = began (listed d.before) in
-    let a = s.args in
-    finishable (asked s) a.indices.now a.out.now a.cells.now s.pre.0 (fit (listed d.before)) _ (drawn_over d)
+    let a = c.args in
+    let q = commission a.shift a.reducing a.kind a.width a.height a.reduction.now a.scale.now a.palette.now a.pixels.now a.opaque.now in
+    let front = ap (take (3 * entries q)) c.put_list_oklab.ensures ∙ list_front q.scale (reduced_at q.palette) (entries q) _ in
+    let drawn_over = c.draw.ensures.0 ∙ ap reduced_bytes (same_picture q c.width_of.ensures front) in
+    finishable q a.indices.now a.out.now a.cells.now c.requires.0 (fit q (λ k. omega (arith, c.type_inv.scale k))) _ drawn_over
 
 pub returns : goal.returns
 returns c =
-    let d = c.before.before.before.before.before.before.before.before.before.before in
-    let s = began (listed d.before) in
-    let a = s.args in
-    let q = asked s in
-    let left = d.draw.new.out in
-    let positions = subst (λ (p : Drawing). PositionsAfter p a.indices.now left) (same_picture d.before) d.draw.ensures.2 in (
-      positions (palette_alike q) s.pre.0.few s.pre.0.indices ∙ positions_are q,
+    let a = c.args in
+    let q = commission a.shift a.reducing a.kind a.width a.height a.reduction.now a.scale.now a.palette.now a.pixels.now a.opaque.now in
+    let front = ap (take (3 * entries q)) c.put_list_oklab.ensures ∙ list_front q.scale (reduced_at q.palette) (entries q) _ in
+    let f = c.requires.0 in
+    let same = same_picture q c.width_of.ensures front in
+    let positions = subst (λ (p : Drawing). PositionsAfter p a.indices.now c.draw.new.indices) same c.draw.ensures.2 in (
+      positions (palette_alike q) f.few f.indices ∙ positions_are q,
       c.finish.ensures
-          ∙ finished_lent (ditherer_of q (width_of q.shift (entries q))) Absent (lent_of q (palette_oklab q)) _ c.least_alpha-least.ensures _ (drawn_over d),
-      d.draw.ensures.1 ∙ ap (λ (p : Drawing). cells_after p a.cells.now) (same_picture d.before),
+          ∙ finished_lent (ditherer_of q (width_of q.shift (entries q))) Absent (lent_of q (palette_oklab q)) _ c.least_alpha-least.ensures
+          _ (c.draw.ensures.0 ∙ ap reduced_bytes same),
+      c.draw.ensures.1 ∙ ap (λ (p : Drawing). cells_after p a.cells.now) same,
     )

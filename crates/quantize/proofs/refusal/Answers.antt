@@ -1,90 +1,88 @@
 -- `quantize::refusal` meets its contract: the tests are the definition's, in its order. Assumes nothing.
-use mathlib.Core.Path.{◌≡◌, sym, ◌∙◌}
-use mathlib.Core.Bool.{false, not, ◌||◌}
-use Prim.Native.Nat.{◌*◌, ◌≤◌}
+use mathlib.Core.Path.{sym, ◌∙◌}
 use native.Mathlib.Omega.{arith}
-use Rattle.picture.specs.Bounds.{size_wrong}
 use Rattle.picture.proofs.BoundLaws.{sized}
-use Rattle.patterns.specs.Kinds.{is_kind, is_retired}
-use Rattle.reducing.specs.Reduce.{is_pairing}
-use Rattle.quantize.specs.Quantize.{lengths_wrong}
 use Rattle.quantize.proofs.refusal.Goals as goal
 
 -- ---- each answer is the first that applies, by what the tests so far have said
 pub returns-then-mode_wrong : goal.returns-then-mode_wrong
 returns-then-mode_wrong c =
-    let a = c in
-    let r = a in
-    rw (← r.is_kind.ensures, ← r.is_pairing.ensures, ← r.is_retired-retired.ensures, ← a.size_wrong-size_wrong.ensures, c.if-mode_wrong.true)
+    rw (← c.is_kind.ensures, ← c.is_pairing.ensures, ← c.is_retired-retired.ensures, ← c.size_wrong-size_wrong.ensures, c.if-mode_wrong.true)
 
 pub returns-then-retired : goal.returns-then-retired
 returns-then-retired c =
-    let a = c in
-    let r = a in
     rw (
-      ← r.is_kind.ensures,
-      ← r.is_pairing.ensures,
-      ← r.is_retired-retired.ensures,
-      ← a.size_wrong-size_wrong.ensures,
+      ← c.is_kind.ensures,
+      ← c.is_pairing.ensures,
+      ← c.is_retired-retired.ensures,
+      ← c.size_wrong-size_wrong.ensures,
       c.if-mode_wrong.false,
       c.if-retired.true,
     )
 
 pub returns-then-size_wrong : goal.returns-then-size_wrong
 returns-then-size_wrong c =
-    let a = c in
-    let r = a in
     rw (
-      ← r.is_kind.ensures,
-      ← r.is_pairing.ensures,
-      ← r.is_retired-retired.ensures,
-      ← a.size_wrong-size_wrong.ensures,
+      ← c.is_kind.ensures,
+      ← c.is_pairing.ensures,
+      ← c.is_retired-retired.ensures,
+      ← c.size_wrong-size_wrong.ensures,
       c.if-mode_wrong.false,
       c.if-retired.false,
       c.if-size_wrong.true,
     )
 
--- ---- past the first three tests, what they ask is not so
-abbrev asked : goal.Else-size_wrong → goal.After-size_wrong-size_wrong
-asked c = c.before.before.before
-
-abbrev start : goal.Else-size_wrong → goal.Start
-start c = (asked c).before.before.before.before
-
-mode_right : (c : goal.Else-size_wrong) → not (is_kind (start c).args.kind) || not (is_pairing (start c).args.reducing (start c).args.shift) ≡ false
-mode_right c =
-    let s = (asked c).before.before in
-    (λ i. not (sym s.before.is-kind.ensures i) || not (sym s.is-pairing.ensures i)) ∙ c.if-mode_wrong.false
-
-drawn : (c : goal.Else-size_wrong) → is_retired (start c).args.kind ≡ false
-drawn c = sym (asked c).before.is-retired.ensures ∙ c.if-retired.false
-
-size_right : (c : goal.Else-size_wrong) → size_wrong (start c).args.width (start c).args.height ≡ false
-size_right c = sym (asked c).size-wrong.ensures ∙ c.if-size_wrong.false
-
-small : (c : goal.Else-size_wrong) → (start c).args.width * (start c).args.height ≤ 1048576
-small c = (sized _ _ (size_right c)).2
-
-lengths_right : (c : goal.Else-lengths_wrong) → let a = (start c.before.before).args in lengths_wrong a.reducing a.kind (a.width * a.height) a.s ≡ false
-lengths_right c = sym c.lengths_wrong.ensures ∙ c.if-lengths_wrong.false
-
+-- ---- past the first three tests the size is not wrong, so there are few pixels
 pub overflow_mul-size : goal.overflow_mul-size
-overflow_mul-size c = let h = small c in omega arith
+overflow_mul-size c =
+    let few = (sized c.args.width c.args.height (sym c.size_wrong-size_wrong.ensures ∙ c.if-size_wrong.false)).2 in
+    omega arith
 
 pub lengths_wrong-requires : goal.lengths_wrong-requires
-lengths_wrong-requires c = small c
+lengths_wrong-requires c = (sized c.args.width c.args.height (sym c.size_wrong-size_wrong.ensures ∙ c.if-size_wrong.false)).2
 
 pub returns-then-lengths_wrong : goal.returns-then-lengths_wrong
-returns-then-lengths_wrong c = let k = c.before.before in rw (mode_right k, drawn k, size_right k, sym c.lengths_wrong.ensures ∙ c.if-lengths_wrong.true)
+returns-then-lengths_wrong c =
+    rw (
+      ← c.is_kind.ensures,
+      ← c.is_pairing.ensures,
+      ← c.is_retired-retired.ensures,
+      ← c.size_wrong-size_wrong.ensures,
+      c.if-mode_wrong.false,
+      c.if-retired.false,
+      c.if-size_wrong.false,
+      ← c.lengths_wrong.ensures,
+      c.if-lengths_wrong.true,
+    )
 
 pub returns-then-entries_wrong : goal.returns-then-entries_wrong
 returns-then-entries_wrong c =
-    let l = c.before.before.before in
-    let k = l.before.before in
-    rw (mode_right k, drawn k, size_right k, lengths_right l, sym c.entries_wrong.ensures ∙ c.if-entries_wrong.true)
+    rw (
+      ← c.is_kind.ensures,
+      ← c.is_pairing.ensures,
+      ← c.is_retired-retired.ensures,
+      ← c.size_wrong-size_wrong.ensures,
+      c.if-mode_wrong.false,
+      c.if-retired.false,
+      c.if-size_wrong.false,
+      ← c.lengths_wrong.ensures,
+      c.if-lengths_wrong.false,
+      ← c.entries_wrong.ensures,
+      c.if-entries_wrong.true,
+    )
 
 pub returns : goal.returns
 returns c =
-    let l = c.before.before.before in
-    let k = l.before.before in
-    rw (mode_right k, drawn k, size_right k, lengths_right l, sym c.entries_wrong.ensures ∙ c.if-entries_wrong.false)
+    rw (
+      ← c.is_kind.ensures,
+      ← c.is_pairing.ensures,
+      ← c.is_retired-retired.ensures,
+      ← c.size_wrong-size_wrong.ensures,
+      c.if-mode_wrong.false,
+      c.if-retired.false,
+      c.if-size_wrong.false,
+      ← c.lengths_wrong.ensures,
+      c.if-lengths_wrong.false,
+      ← c.entries_wrong.ensures,
+      c.if-entries_wrong.false,
+    )
