@@ -1,6 +1,6 @@
 -- What the number says: it is the first that applies (`number_is`); the answer with a number has it (`own_number`); where none applies, all lengths fit
 -- (`accepted`). Assumes nothing.
-use mathlib.Core.Path.{◌≡◌, refl, sym, ◌∙◌}
+use mathlib.Core.Path.{◌≡◌, refl, ◌∙◌}
 use mathlib.Core.Bool.{false, not}
 use mathlib.Core.List.{List, []}
 use Prim.Native.Nat.{ℕ, ◌*◌, ◌/◌, ◌%◌, ◌<◌}
