@@ -7,11 +7,8 @@ use Rattle.exports.proofs.badge_nearest.Goals as goal
 
 pub overflow_cast-position : goal.overflow_cast-position
 overflow_cast-position c =
-    let n = c.new-color in
     let a = c.args in
-    let f = c.flat_nearest in
-    let k = c.k-1.given in
-    omega (arith, position_small a.reduced.now a.normalized.now a.oklab.now n.result f.ensures k.1)
+    omega (arith, position_small a.reduced.now a.normalized.now a.oklab.now c.new-color.result c.flat_nearest.ensures c.in-At.is)
 
 pub returns-in-At : goal.returns-in-At
 returns-in-At c =

@@ -8,19 +8,20 @@ use Rattle.exports.proofs.badge_nearest_two.Goals as goal
 
 pub overflow_cast-nearest : goal.overflow_cast-nearest
 overflow_cast-nearest c =
-    let n = c.new-color in
     let a = c.args in
-    let f = c.flat_nearest_two in
-    let t = c.two-1.given in
-    omega (arith, (positions_small a.reduced.now a.normalized.now a.oklab.now n.result a.width f.ensures t.1).0)
+    omega (
+      arith,
+      (positions_small a.reduced.now a.normalized.now a.oklab.now c.new-color.result a.width c.flat_nearest_two.ensures c.in-At.is).0,
+    )
 
 pub overflow_cast-other : goal.overflow_cast-other
 overflow_cast-other c =
-    let n = c.new-color in
     let a = c.args in
-    let f = c.flat_nearest_two in
-    let t = c.two-1.given in
-    omega (arith, c.second_of-other.ensures, (positions_small a.reduced.now a.normalized.now a.oklab.now n.result a.width f.ensures t.1).1)
+    omega (
+      arith,
+      c.second_of-other.ensures,
+      (positions_small a.reduced.now a.normalized.now a.oklab.now c.new-color.result a.width c.flat_nearest_two.ensures c.in-At.is).1,
+    )
 
 pub returns-in-At : goal.returns-in-At
 returns-in-At c =

@@ -6,8 +6,8 @@ use Rattle.exports.proofs.color_zero.Goals as goal
 
 pub returns-then-has_zero-eq0 : goal.returns-then-has_zero-eq0
 unfolding zero_of
-returns-then-has_zero-eq0 c = rw (eq-eqb c.args.has-zero 0 c.if-has_zero-eq0.true)
+returns-then-has_zero-eq0 c = rw (eq-eqb c.args.has_zero 0 c.if-has_zero-eq0.true)
 
 pub returns : goal.returns
 unfolding zero_of
-returns c = rw (ne_eqb c.args.has-zero 0 c.if-has_zero-eq0.false) (λ i. Is (record { 0 = c.new.ensures i }))
+returns c = rw (ne_eqb c.args.has_zero 0 c.if-has_zero-eq0.false) (λ i. Is (record { 0 = c.new.ensures i }))
