@@ -2,7 +2,7 @@
 -- Assumes nothing.
 use mathlib.Core.Path.{◌≡◌, sym, ap, ◌∙◌, subst}
 use mathlib.Core.List.{List}
-use Prim.Native.Nat.{ℕ, ◌*◌, ◌≤◌}
+use Prim.Native.Nat.{ℕ}
 use native.Mathlib.Omega.{arith}
 use lib.Ieee.{Float}
 use lib.ListN.{length}
@@ -13,7 +13,6 @@ use Rattle.candidates.specs.Candidates.{candidates_of}
 use Rattle.candidates.specs.Rooms.{Collects}
 use Rattle.candidates.proofs.RoomLaws.{count_within}
 use Rattle.dither.specs.Mode.{Commission, commission, buffers, size, basis_of, candidate_list}
-use Rattle.dither.specs.Steps.{Fitting}
 use Rattle.dither.proofs.NumberLaws.{accepted, room}
 use Rattle.dither.proofs.CandidateLaws.{collected, uncollected, roomed}
 use Rattle.dither.proofs.CallLaws.{call_refused, call_full, call_completed}

@@ -1,5 +1,5 @@
 -- `dither::refusal` meets its contract: the tests are the definition's, in its order. Assumes nothing.
-use mathlib.Core.Path.{◌≡◌, sym, ◌∙◌}
+use mathlib.Core.Path.{sym, ◌∙◌}
 use native.Mathlib.Omega.{arith}
 use Rattle.dither.proofs.NumberLaws.{bounded}
 use Rattle.dither.proofs.refusal.Goals as goal
