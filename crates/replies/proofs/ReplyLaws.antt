@@ -9,6 +9,11 @@ use lib.Dec.{T, eqb, T_not, eqb_refl}
 use lib.Ieee.Fits.{and_l, and_r}
 use Rattle.replies.specs.Replies.{Reply, first_reply, NoneApplies, numbered, FirstReply, after}
 
+-- ---- the one that applies where those before it do not
+pub reply_at : (xs : List Reply) (x : Reply) (ys : List Reply) → NoneApplies xs → x.applies ≡ true → first_reply (xs ++ x ∷ ys) ≡ x.number
+reply_at [] x ys a e = rw e
+reply_at (y ∷ xs) x ys a e = rw a.0 (reply_at xs x ys a.1 e)
+
 -- ---- 0 where none applies, and only there
 pub reply_zero : (xs : List Reply) → NoneApplies xs → first_reply xs ≡ 0
 reply_zero [] a = refl
@@ -22,12 +27,7 @@ reply_none (x ∷ xs) h e = go x.applies refl e (reply_none xs (and_r (not (eqb 
     go true a e later = absurd (T_not (eqb x.number 0) (and_l (not (eqb x.number 0)) (numbered xs) h) (rw e (eqb_refl 0)))
     go false a e later = (a, later e)
 
--- the one that applies where those before it do not
-pub reply_at : (xs : List Reply) (x : Reply) (ys : List Reply) → NoneApplies xs → x.applies ≡ true → first_reply (xs ++ x ∷ ys) ≡ x.number
-reply_at [] x ys a e = rw e
-reply_at (y ∷ xs) x ys a e = rw a.0 (reply_at xs x ys a.1 e)
-
--- replies behind one that applies change nothing
+-- ---- replies behind one that applies change nothing
 pub reply_front : (xs ys : List Reply) → (first_reply xs ≡ 0 → ⊥) → first_reply (xs ++ ys) ≡ first_reply xs
 reply_front [] ys n = absurd (n refl)
 reply_front (x ∷ xs) ys n = go x.applies n (reply_front xs ys)
