@@ -15,6 +15,7 @@ slice_bounds-colors-end c = simp length-take (omega arith)
 pub slice_bounds-floats-end : goal.slice_bounds-floats-end
 slice_bounds-floats-end c = simp length-take (omega arith)
 
+-- the origin may be any from which the picture ends in bounds
 pub draw-requires : goal.draw-requires
 draw-requires c =
     let a = c.args in
@@ -22,7 +23,25 @@ draw-requires c =
     let f = c.requires.1 in
     let reduces : (k : ℕ) → get_or a.reduction.now k 0 < 256 = λ k. omega (arith, c.type_inv.reduction k) in
     let scales : (k : ℕ) → get_or a.scale.now k 0 < 256 = λ k. omega (arith, c.type_inv.scale k) in
-    (c.requires.0, ready q c.requires.2 f c.width_of.result reduces scales, f.out_long, f.cells_long)
+    let r = ready q c.requires.2 f c.width_of.result reduces scales in (
+      c.requires.0,
+      record {
+        wide = r.wide;
+        high = r.high;
+        few = r.few;
+        across = omega arith;
+        down = omega arith;
+        reduction = r.reduction;
+        scale = r.scale;
+        pixels = r.pixels;
+        opaque = r.opaque;
+        colors = r.colors;
+        ranged = r.ranged;
+        some = r.some;
+      },
+      f.out_long,
+      f.cells_long,
+    )
 
 pub returns : goal.returns
 returns c =
