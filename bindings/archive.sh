@@ -1,7 +1,8 @@
 # Read by the run scripts of bindings/, fuzz/, formats/, controller/ and cli/, and by badge: finds the archive, and has it built
-# where it is missing or older than its sources. They set `root` first, the repository's root.
+# where it is missing or older than its sources. (rt ci takes the archive away, and what is proved is kept.) They set `root` first,
+# the repository's root.
 
-own=$root/target/staticlib/libexports.a
+own=$root/crates/exports/out/libexports.a
 
 # Ends the script with one line.
 die() {
@@ -21,6 +22,13 @@ older() {
     [ ! -f "$file" ] || [ -n "$(find "$@" -newer "$file" -print -quit)" ]
 }
 
+# library_older FILE SOURCE..: the same, with the library's sources beside those that are named. What rt keeps in a crate's out/
+# is no source, nor is it one that this folder came or went.
+library_older() {
+    older "$@" "$root/crates.txt" ||
+        [ -n "$(find "$root/crates" -mindepth 2 -name out -prune -o -newer "$1" -print -quit)" ]
+}
+
 # Sets `archive` to the file that BADGE_DITHER_LIB names, or to the repository's own.
 name_archive() {
     archive=$own
@@ -32,19 +40,18 @@ name_archive() {
 
 # An archive that was named is taken as it is.
 archive_older() {
-    [ -z "${BADGE_DITHER_LIB:-}" ] && older "$own" "$root/crates" "$root/crates.txt"
+    [ -z "${BADGE_DITHER_LIB:-}" ] && library_older "$own"
 }
 
 # Proves the library and compiles it; each crate that is proved is named. Standard input and output are the script's own.
 build_archive() {
     need rt "the Rattle toolchain's command (or set BADGE_DITHER_LIB to a built libexports.a)"
-    echo "${0##*/}: proving and compiling the library, by rt staticlib exports; once, and from nothing about six minutes" >&2
+    echo "${0##*/}: proving and compiling the library, by rt lib; once, and from nothing about six minutes" >&2
     mkdir -p "$root/target" || die "$root/target can't be written to"
     log=$root/target/archive.log
-    (cd "$root" && rt staticlib exports 2>&1 || echo "rt failed") </dev/null | tee "$log" |
-        sed -un "s/^rt: \(.* proved\)/${0##*/}: \1/p" >&2
-    # An archive that needed no change has its old time.
-    [ "$(tail -n 1 "$log")" != "rt failed" ] && touch "$own" || die "rt staticlib exports failed; $log has what it said"
+    (cd "$root/crates/exports" && rt lib 2>&1 || echo "rt failed") </dev/null | tee "$log" |
+        sed -un "/^crate \([^ ]*\): .*/ { s//${0##*/}: \1 proved/; h; }; /^logic=proved/ { g; p; }" >&2
+    [ "$(tail -n 1 "$log")" != "rt failed" ] && [ -f "$own" ] || die "rt lib in crates/exports failed; $log has what it said"
 }
 
 find_archive() {

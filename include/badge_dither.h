@@ -1,6 +1,6 @@
 /*
- * The badge dither: SuperFamiconv's dithering behind a C interface. Link with libexports.a, which `rt staticlib exports`
- * writes.
+ * The badge dither: SuperFamiconv's dithering behind a C interface. Link with libexports.a, which `rt lib` writes to
+ * crates/exports/out.
  *
  * Numbers. Kinds, reductions and refusals are numbers, which `enum badge_kind`, `enum badge_reducing` and `enum badge_refusal`
  * name; a call takes any number as a kind or a reduction. A call that can refuse returns 0, BADGE_ACCEPTED, where it accepts.

@@ -64,7 +64,7 @@ fn link_port() {
     for call in CALLS {
         println!("cargo::rustc-check-cfg=cfg(has_{call})");
     }
-    let path = PathBuf::from(env::var("PORT_LIB").unwrap_or_else(|_| "../target/staticlib/libexports.a".into()));
+    let path = PathBuf::from(env::var("PORT_LIB").unwrap_or_else(|_| "../crates/exports/out/libexports.a".into()));
     println!("cargo::rerun-if-changed={}", path.display());
     let Ok(bytes) = fs::read(&path) else {
         return;

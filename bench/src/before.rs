@@ -81,5 +81,5 @@ pub fn measure(before: &Path, port: &Path, only: Vec<String>, quick: bool) -> Re
 
 /// The archive that is linked.
 pub fn linked() -> PathBuf {
-    std::env::var_os("PORT_LIB").unwrap_or("../target/staticlib/libexports.a".into()).into()
+    std::env::var_os("PORT_LIB").unwrap_or("../crates/exports/out/libexports.a".into()).into()
 }

@@ -1,6 +1,6 @@
 //! Finds the archive of the badge dither and has it linked: the file named by
-//! `BADGE_DITHER_LIB`, or the one that `rt staticlib exports` writes in the
-//! repository.
+//! `BADGE_DITHER_LIB`, or the one that `rt lib` writes in the repository's
+//! `crates/exports`.
 
 use std::path::{Path, PathBuf};
 use std::{env, fs, process};
@@ -51,11 +51,11 @@ fn check_target(path: &Path) {
 fn archive() -> PathBuf {
     let path = match env::var_os("BADGE_DITHER_LIB") {
         Some(path) => PathBuf::from(path),
-        None => PathBuf::from("../../target/staticlib/libexports.a"),
+        None => PathBuf::from("../../crates/exports/out/libexports.a"),
     };
     path.canonicalize().ok().filter(|full| full.is_file()).unwrap_or_else(|| {
         fail(&format!(
-            "there is no archive at {}: run `rt staticlib exports` in the repository's root, \
+            "there is no archive at {}: run `rt lib` in the repository's crates/exports, \
              or set BADGE_DITHER_LIB to the full path of libexports.a",
             path.display()
         ))
