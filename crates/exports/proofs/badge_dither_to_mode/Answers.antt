@@ -6,7 +6,7 @@ use Rattle.reducing.specs.declared.Reducing.{Reducing}
 use Rattle.drawing.specs.declared.ColorZero.{ColorZero}
 use Rattle.dither.specs.declared.Dithered.{Dithered}
 use Rattle.dither.specs.Mode.{Commission, Buffers, buffers, DitheredToMode}
-use Rattle.exports.specs.Pictures.{reducing_of, named, zero_of, settings_of, drawn_by, badge_dither_to_mode}
+use Rattle.exports.specs.Pictures.{reducing_of, named, settings_of, drawn_by, badge_dither_to_mode}
 use Rattle.exports.proofs.PictureLaws.{is_named, telling, mode_by_case}
 use borrow.Author.Tests.{lt-ltb}
 use Rattle.exports.proofs.badge_dither_to_mode.Goals as goal
