@@ -46,9 +46,9 @@ typedef struct {
     } bracket;
 } FoundBracket;
 
-void records_nearest(Found *found, const Records *list, const uint8_t *color);
-void records_nearest_two(Found *found, const uint8_t *color, const Records *list, uint64_t width);
-void records_ordered_bracket(FoundBracket *found, const uint8_t *color, const Records *list, uint64_t width);
+void records_nearest(Found *found, const Record *at, size_t len, const uint8_t *color);
+void records_nearest_two(Found *found, const uint8_t *color, const Record *at, size_t len, uint64_t width);
+void records_ordered_bracket(FoundBracket *found, const uint8_t *color, const Record *at, size_t len, uint64_t width);
 
 /* ---- what is lent: the same list as records and flat */
 
@@ -67,17 +67,17 @@ static FoundBracket found_bracket;
 
 static void call_nearest(void)
 {
-    records_nearest(&found, &now.list, now.color);
+    records_nearest(&found, now.list.at, now.list.len, now.color);
 }
 
 static void call_nearest_two(void)
 {
-    records_nearest_two(&found, now.color, &now.list, now.width);
+    records_nearest_two(&found, now.color, now.list.at, now.list.len, now.width);
 }
 
 static void call_ordered_bracket(void)
 {
-    records_ordered_bracket(&found_bracket, now.color, &now.list, now.width);
+    records_ordered_bracket(&found_bracket, now.color, now.list.at, now.list.len, now.width);
 }
 
 /* ---- what they answer */

@@ -3,8 +3,10 @@
 //! leaves in target/controller. How the functions take arguments and answer is the
 //! toolchain's own affair; it is said here as fuzz/stack_records.c says it, which
 //! holds each answer to that of the lookup over flat lists. Since request 4 they
-//! answer positions, too. An object of before is measured all the same: which form
-//! its answers have is found by asking it.
+//! answer positions, too, and today's toolchain hands a slice over as two words,
+//! where the older one handed over the place of the two. An object of before is
+//! measured all the same: which form its answers and its slices have is found by
+//! asking it.
 
 use std::ffi::c_void;
 use std::hint::black_box;
@@ -27,7 +29,7 @@ struct Record {
     oklab: [u32; 3],
 }
 
-/// A slice of records, as it is lent.
+/// A slice of records, as the older toolchain lends it.
 #[repr(C)]
 struct Lent {
     at: *const Record,
@@ -96,9 +98,9 @@ union Room<R: Copy, B: Copy> {
     bracket: FoundBracket<B>,
 }
 
-type Nearest = unsafe extern "C" fn(*mut c_void, *const Lent, *const Rgba);
-type NearestTwo = unsafe extern "C" fn(*mut c_void, *const Rgba, *const Lent, u64);
-type OrderedBracket = unsafe extern "C" fn(*mut c_void, *const Rgba, *const Lent, u64);
+type Nearest = unsafe extern "C" fn(*mut c_void, *const Record, usize, *const Rgba);
+type NearestTwo = unsafe extern "C" fn(*mut c_void, *const Rgba, *const Record, usize, u64);
+type OrderedBracket = unsafe extern "C" fn(*mut c_void, *const Rgba, *const Record, usize, u64);
 
 /// What a lookup answers.
 #[derive(PartialEq, Debug)]
@@ -116,21 +118,28 @@ struct Lookups {
     ordered_bracket: OrderedBracket,
     /// Whether they answer positions.
     positions: bool,
+    /// Whether a slice is handed over as the place of its two words.
+    by_place: bool,
 }
 
 impl Lookups {
     fn of(loaded: &Loaded) -> Result<Lookups, String> {
-        // SAFETY: the functions have these types by fuzz/stack_records.c.
+        // SAFETY: the functions have these types by fuzz/stack_records.c, or, where a
+        // slice is handed over by its place, take an argument less and leave the last.
         let mut lookups = unsafe {
             Lookups {
                 nearest: loaded.function("records_nearest")?,
                 nearest_two: loaded.function("records_nearest_two")?,
                 ordered_bracket: loaded.function("records_ordered_bracket")?,
                 positions: true,
+                by_place: true,
             }
         };
         // A record without a position stands at another place of the answer.
         let only = Record { reduced: [1, 2, 3, 4], normalized: [5, 6, 7, 8], oklab: [0; 3] };
+        // Where it is handed over as two words, the second is here the place of a colour:
+        // a list of that length is refused, and not read.
+        lookups.by_place = !matches!(lookups.answer(Call::Nearest, &[only], [0; 3]), Answer::Refused(_));
         lookups.positions = lookups.answer(Call::Nearest, &[only], [0; 3]) == Answer::One(only);
         Ok(lookups)
     }
@@ -150,6 +159,8 @@ impl Lookups {
         B: Copy + Into<Bracket>,
     {
         let (lent, color) = (Lent { at: list.as_ptr(), len: list.len() }, [r, g, b, 255]);
+        // By its place a slice is one word, and what comes next is the second.
+        let words = |next| if self.by_place { ((&raw const lent).cast(), next) } else { (lent.at, lent.len) };
         let mut room = Room::<R, B> { all: [0; 9] };
         let to = (&raw mut room).cast();
         // SAFETY: what is lent lives as long as the call and does not overlap. The
@@ -157,9 +168,15 @@ impl Lookups {
         // of all answers.
         unsafe {
             match call {
-                Call::Nearest => (self.nearest)(to, &lent, &color),
-                Call::NearestTwo => (self.nearest_two)(to, &color, &lent, WIDTH),
-                _ => (self.ordered_bracket)(to, &color, &lent, WIDTH),
+                Call::Nearest => {
+                    let (at, len) = words((&raw const color).expose_provenance());
+                    (self.nearest)(to, at, len, &color);
+                }
+                _ => {
+                    let (at, len) = words(WIDTH as usize);
+                    let lookup = if call == Call::NearestTwo { self.nearest_two } else { self.ordered_bracket };
+                    lookup(to, &color, at, len, WIDTH);
+                }
             }
             match (call, room.found.tag) {
                 (Call::Nearest, 0) | (Call::NearestTwo, 1) => Answer::One(room.found.first.into()),
