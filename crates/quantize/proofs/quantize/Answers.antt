@@ -1,13 +1,13 @@
 -- `quantize::quantize` meets its contract: the palette's Oklab, the drawn picture with the positions of its choices, and the choices finished. Assumes
 -- nothing.
-use mathlib.Core.Path.{◌≡◌, sym, ◌∙◌, ap, subst}
+use mathlib.Core.Path.{◌≡◌, ◌∙◌, ap, subst}
 use mathlib.Core.List.{List}
 use Prim.Native.Nat.{ℕ, ◌*◌, ◌<◌}
 use native.Mathlib.Omega.{arith}
-use lib.ListN.{length, get_or, take}
+use lib.ListN.{get_or, take}
 use lib.Ieee.{Float}
 use Rattle.color.specs.Color.{reduced_at}
-use Rattle.conversion.proofs.ListLaws.{list_long, list_front}
+use Rattle.conversion.proofs.ListLaws.{list_front}
 use Rattle.shortlist.specs.Candidates.{RangedList}
 use Rattle.mixing.specs.Widths.{width_of}
 use Rattle.drawing.specs.declared.ColorZero.TheVariants.{Absent}
@@ -29,32 +29,32 @@ same_picture : (q : Commission) {width : ℕ} {oklab : List Float} → width ≡
     → drawing_of (ditherer_of q width) Absent (lent_of q oklab) ≡ quantizing q
 same_picture q w o = λ t. drawing_of (ditherer_of q (w t)) Absent (lent_of q (o t))
 
-pub slice_bounds-oklab-end-2 : goal.slice_bounds-oklab-end-2
-slice_bounds-oklab-end-2 c =
-    let a = c.args in
-    let q = commission a.shift a.reducing a.kind a.width a.height a.reduction.now a.scale.now a.palette.now a.pixels.now a.opaque.now in
-    let front = ap (take (3 * entries q)) c.put_list_oklab.ensures ∙ list_front q.scale (reduced_at q.palette) (entries q) _ in
-    sym (ap length front ∙ list_long q.scale (reduced_at q.palette) (entries q))
-
+-- the origin may be any from which the picture ends in bounds, and the first entries are ready where all are
 pub draw-requires : goal.draw-requires
 draw-requires c =
     let a = c.args in
     let q = commission a.shift a.reducing a.kind a.width a.height a.reduction.now a.scale.now a.palette.now a.pixels.now a.opaque.now in
     let front = ap (take (3 * entries q)) c.put_list_oklab.ensures ∙ list_front q.scale (reduced_at q.palette) (entries q) _ in
-    let f = c.requires.0 in (
+    let f = c.requires.0 in
+    let r = ready q a.indices.now a.out.now a.cells.now f (fit q (λ k. omega (arith, c.type_inv.scale k))) c.width_of.result _ front in (
       record { is = c.linear_table-linear.ensures },
-      ready q a.indices.now a.out.now a.cells.now f (fit q (λ k. omega (arith, c.type_inv.scale k))) _ _ front,
+      record {
+        wide = r.wide;
+        high = r.high;
+        few = r.few;
+        across = omega (arith, r.wide);
+        down = omega (arith, r.high);
+        reduction = r.reduction;
+        scale = r.scale;
+        pixels = r.pixels;
+        opaque = r.opaque;
+        colors = omega (arith, r.colors, f.some);
+        ranged = record { long = omega (arith, r.ranged.long, f.some); range = λ k K. r.ranged.range k (omega (arith, f.some)) };
+        some = λ i h s. omega (arith, f.some);
+      },
       f.out,
       f.cells,
     )
-
-pub finish-requires : goal.finish-requires
-finish-requires c =
-    let a = c.args in
-    let q = commission a.shift a.reducing a.kind a.width a.height a.reduction.now a.scale.now a.palette.now a.pixels.now a.opaque.now in
-    let front = ap (take (3 * entries q)) c.put_list_oklab.ensures ∙ list_front q.scale (reduced_at q.palette) (entries q) _ in
-    let drawn_over = c.draw.ensures.0 ∙ ap reduced_bytes (same_picture q c.width_of.ensures front) in
-    finishable q a.indices.now a.out.now a.cells.now c.requires.0 (fit q (λ k. omega (arith, c.type_inv.scale k))) _ drawn_over
 
 pub returns : goal.returns
 returns c =
@@ -70,3 +70,11 @@ returns c =
           _ (c.draw.ensures.0 ∙ ap reduced_bytes same),
       c.draw.ensures.1 ∙ ap (λ (p : Drawing). cells_after p a.cells.now) same,
     )
+
+pub finish-requires : goal.finish-requires
+finish-requires c =
+    let a = c.args in
+    let q = commission a.shift a.reducing a.kind a.width a.height a.reduction.now a.scale.now a.palette.now a.pixels.now a.opaque.now in
+    let front = ap (take (3 * entries q)) c.put_list_oklab.ensures ∙ list_front q.scale (reduced_at q.palette) (entries q) _ in
+    let drawn_over = c.draw.ensures.0 ∙ ap reduced_bytes (same_picture q c.width_of.ensures front) in
+    finishable q a.indices.now a.out.now a.cells.now c.requires.0 (fit q (λ k. omega (arith, c.type_inv.scale k))) _ drawn_over
