@@ -61,7 +61,7 @@ module _ (d : Drawing) (pixels out : List ℕ) (cells : List ℤ) (kind : is_dif
       record {
         chosen = chosen;
         cell_buffer = spent;
-        cells_within = λ bytes. buffer_small k p (kernel_later d.kind) (kernel_total d.kind) (λ a j A. bytes (4 * j + a)) cells spent;
+        cells_within = λ bytes. buffer_small k p (kernel_later d.kind) (kernel_total d.kind) (λ a j A. bytes _) cells spent;
         balanced = λ a A.
             account k (held_of d.kind) (channel p a) (kernel_later d.kind) (kernel_whole d.kind kind) (cell_in cells a)
             (λ i h. cells_read k p cells (kernel_later d.kind) spent a i A h);

@@ -9,6 +9,7 @@ use Rattle.candidates.specs.declared.CandidateCount.{CandidateCount}
 use Rattle.candidates.specs.Calls.{Asked, CandidateColors}
 use Rattle.exports.specs.Pictures.{reducing_of, named, lent_to, badge_candidate_colors_in}
 use Rattle.exports.proofs.PictureLaws.{is_named, counting, candidates_by_case}
+use native.Mathlib.Omega.{arith}
 use borrow.Author.Tests.{lt-ltb}
 use Rattle.exports.proofs.badge_candidate_colors_in.Goals as goal
 
@@ -21,7 +22,7 @@ handed asked was n few e h c =
     candidates_by_case (asked _) was h c ∙ is_named n (λ by. badge_candidate_colors_in (asked by) was) _ few e
 
 pub returns-then-reducing-gt-LAST_REDUCING : goal.returns-then-reducing-gt-LAST_REDUCING
-returns-then-reducing-gt-LAST_REDUCING c = rw (lt-ltb 2 _ c.if-reducing-gt-LAST_REDUCING.true)
+returns-then-reducing-gt-LAST_REDUCING c = rw (lt-ltb 2 c.args.reducing (omega arith))
 
 pub returns-in-Count : goal.returns-in-Count
 returns-in-Count c =

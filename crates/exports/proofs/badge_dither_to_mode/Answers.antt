@@ -8,6 +8,7 @@ use Rattle.dither.specs.declared.Dithered.{Dithered}
 use Rattle.dither.specs.Mode.{Commission, Buffers, buffers, DitheredToMode}
 use Rattle.exports.specs.Pictures.{reducing_of, named, settings_of, drawn_by, badge_dither_to_mode}
 use Rattle.exports.proofs.PictureLaws.{is_named, telling, mode_by_case}
+use native.Mathlib.Omega.{arith}
 use borrow.Author.Tests.{lt-ltb}
 use Rattle.exports.proofs.badge_dither_to_mode.Goals as goal
 
@@ -20,7 +21,7 @@ handed asked was count tile n {zero} {by = by} few e z {r} {then = then} h c =
     ∙ is_named n (λ by. badge_dither_to_mode (asked zero by) was count tile) _ few e
 
 pub returns-then-reducing-gt-LAST_REDUCING : goal.returns-then-reducing-gt-LAST_REDUCING
-returns-then-reducing-gt-LAST_REDUCING c = rw (lt-ltb 2 _ c.if-reducing-gt-LAST_REDUCING.true)
+returns-then-reducing-gt-LAST_REDUCING c = rw (lt-ltb 2 c.args.reducing (omega arith))
 
 pub returns-in-Count : goal.returns-in-Count
 returns-in-Count c =

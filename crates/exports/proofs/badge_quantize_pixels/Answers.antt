@@ -8,6 +8,7 @@ use Rattle.quantize.specs.declared.Quantization.{Quantization}
 use Rattle.quantize.specs.Quantize.{Commission, number_of, Quantized}
 use Rattle.exports.specs.Pictures.{reducing_of, named, asked, badge_quantize_pixels}
 use Rattle.exports.proofs.PictureLaws.{is_named, quantized_by_case}
+use native.Mathlib.Omega.{arith}
 use borrow.Author.Tests.{lt-ltb}
 use Rattle.exports.proofs.badge_quantize_pixels.Goals as goal
 
@@ -21,7 +22,7 @@ handed commissioned indices₀ out₀ cells₀ n few e h c =
     ∙ is_named n (λ by. badge_quantize_pixels (commissioned by) indices₀ out₀ cells₀) _ few e
 
 pub returns-then-reducing-gt-LAST_REDUCING : goal.returns-then-reducing-gt-LAST_REDUCING
-returns-then-reducing-gt-LAST_REDUCING c = rw (lt-ltb 2 _ c.if-reducing-gt-LAST_REDUCING.true)
+returns-then-reducing-gt-LAST_REDUCING c = rw (lt-ltb 2 c.args.reducing (omega arith))
 
 pub returns-in-Accepted : goal.returns-in-Accepted
 returns-in-Accepted c =
