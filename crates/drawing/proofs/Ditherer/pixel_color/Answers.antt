@@ -11,31 +11,11 @@ use Rattle.drawing.proofs.Ditherer.pixel_color.Goals.{in-Is+in_default-kept_zero
 pub is_seen-seen-requires : goal.is_seen-seen-requires
 is_seen-seen-requires c = let p = c.requires in (lent_inside p.1 _ p.4).1
 
-pub returns-then-not-seen : goal.returns-then-not-seen
-returns-then-not-seen c =
-    let a = c.args in
-    let l = lent a.reducing a.reduction.now a.scale.now a.pixels.now a.opaque.now a.colors.now a.oklab.now a.count in
-    let p = c.requires in
-    let unseen = seen_as l a.i p.2 c.is_seen-seen.ensures c.if-not-seen.true in
-    let skips = unseen_skipped a.zero (reduced_lent l) a.i unseen in
-    let kept = c.keeping.ensures in
-    (takes_skipped _ _ _ skips (kept.0 ∙ unseen_own l a.i unseen) kept.1, p.5)
-
 pub kept_zero-requires : goal.kept_zero-requires
 kept_zero-requires c =
     let p = c.requires in
     let l = lent_inside p.1 _ p.4 in
     (l.0, l.2)
-
-pub returns-in-Color : goal.returns-in-Color
-returns-in-Color c =
-    let a = c.args in
-    let l = lent a.reducing a.reduction.now a.scale.now a.pixels.now a.opaque.now a.colors.now a.oklab.now a.count in
-    let p = c.requires in
-    let own = kept_case (reduced_lent l a.i) (Color _) c.in-Is.is c.kept_zero.ensures c.in-Color.is in
-    let skips = seen_skipped a.zero (reduced_lent l) a.i (seen_as l a.i p.2 c.is_seen-seen.ensures c.if-not-seen.false) own.0 in
-    let kept = c.keeping-in-Color.ensures in
-    (takes_skipped _ _ _ skips (kept.0 ∙ own.1) kept.1, p.5)
 
 pub source_at-color-requires : goal.source_at-color-requires
 source_at-color-requires c = let p = c.requires in (lent_inside p.1 _ p.4).1
@@ -65,3 +45,23 @@ returns c =
     ] in
     let dithers = seen_skipped a.zero (reduced_lent l) a.i (seen_as l a.i p.2 c.is_seen-seen.ensures c.if-not-seen.false) none in
     (plain_is a.self a.zero l a.i _ _ dithers p.3 c.source_at-color.ensures c.color_at.ensures.0, c.color_at.ensures.1)
+
+pub returns-in-Color : goal.returns-in-Color
+returns-in-Color c =
+    let a = c.args in
+    let l = lent a.reducing a.reduction.now a.scale.now a.pixels.now a.opaque.now a.colors.now a.oklab.now a.count in
+    let p = c.requires in
+    let own = kept_case (reduced_lent l a.i) (Color _) c.in-Is.is c.kept_zero.ensures c.in-Color.is in
+    let skips = seen_skipped a.zero (reduced_lent l) a.i (seen_as l a.i p.2 c.is_seen-seen.ensures c.if-not-seen.false) own.0 in
+    let kept = c.keeping-in-Color.ensures in
+    (takes_skipped _ _ _ skips (kept.0 ∙ own.1) kept.1, p.5)
+
+pub returns-then-not-seen : goal.returns-then-not-seen
+returns-then-not-seen c =
+    let a = c.args in
+    let l = lent a.reducing a.reduction.now a.scale.now a.pixels.now a.opaque.now a.colors.now a.oklab.now a.count in
+    let p = c.requires in
+    let unseen = seen_as l a.i p.2 c.is_seen-seen.ensures c.if-not-seen.true in
+    let skips = unseen_skipped a.zero (reduced_lent l) a.i unseen in
+    let kept = c.keeping.ensures in
+    (takes_skipped _ _ _ skips (kept.0 ∙ unseen_own l a.i unseen) kept.1, p.5)
