@@ -46,7 +46,7 @@ archive_older() {
 # Proves the library and compiles it; each crate that is proved is named. Standard input and output are the script's own.
 build_archive() {
     need rt "the Rattle toolchain's command (or set BADGE_DITHER_LIB to a built libexports.a)"
-    echo "${0##*/}: proving and compiling the library, by rt lib; once, and from nothing about six minutes" >&2
+    echo "${0##*/}: proving and compiling the library, by rt lib; once, and from nothing some minutes" >&2
     mkdir -p "$root/target" || die "$root/target can't be written to"
     log=$root/target/archive.log
     (cd "$root/crates/exports" && rt lib 2>&1 || echo "rt failed") </dev/null | tee "$log" |
