@@ -13,10 +13,10 @@ find_kit() {
 }
 
 # make_tools FILE: makes the folder `tools`, whose clang copies modules to FILE, and writes the options for LLVM that it is given.
+# It has links, and stands outside the repository: rt ci refuses a checkout with a link in it.
 make_tools() {
-    tools=$built/tools
-    rm -rf "$tools"
-    mkdir -p "$tools/bin"
+    tools=$(mktemp -d) || die "no folder for the tools"
+    mkdir "$tools/bin"
     ln -s "$kit/toolchain/lib" "$tools/lib"
     for name in ld.lld llvm-ar; do
         ln -s "$kit/toolchain/bin/$name" "$tools/bin/$name"
@@ -48,11 +48,14 @@ write_module() {
     for folder in crates/*/out/rlib; do
         set -- "$@" -L "dependency=../../$folder"
     done
+    status=0
     (cd "crates/$crate" && "$kit/bin/rattle" build --crate-type staticlib --crate-name "$crate" src/lib.rt \
         --extern "std=$kit/rlibs/std.rlib" "$@" -L "dependency=$kit/rlibs" \
         --antt-project "$kit/rattle/logic/antt-project.json" --logic-built "$kit/logic_built" \
-        --toolchain "$tools" -o "${file%.bc}.a") >"${file%.bc}.log" 2>&1 || die "no module of $crate: ${file%.bc}.log"
-    grep -q '^logic=proved' "${file%.bc}.log" && mv "$file.new" "$file" || die "no module of $crate: ${file%.bc}.log"
+        --toolchain "$tools" -o "${file%.bc}.a") >"${file%.bc}.log" 2>&1 || status=$?
+    rm -rf "$tools"
+    [ $status -eq 0 ] && grep -q '^logic=proved' "${file%.bc}.log" && mv "$file.new" "$file" ||
+        die "no module of $crate: ${file%.bc}.log"
 }
 
 # write_text MODULE FILE: the module as text.
