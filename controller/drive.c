@@ -64,6 +64,9 @@ static uint8_t list[LIST_ROOM];
 static const uint8_t *tables; /* the line of the tables, for the calls on pictures */
 static size_t tables_len;
 
+const uint8_t *case_line;
+size_t case_len;
+
 static bool has_tables(uint8_t letter)
 {
     return letter == 'c' || letter == 'q' || letter == 'x';
@@ -75,6 +78,8 @@ static void replay_line(const uint8_t *line, size_t len)
     if (has_tables(line[0]))
         read_tokens(tables, tables_len);
     read_tokens(line, len);
+    case_line = line;
+    case_len = len;
     Verdict verdict = replay(line[0]);
     group.count++;
     group.no_call = group.no_call || verdict == NO_CALL;

@@ -12,6 +12,10 @@
 /* What can be made of a case. */
 typedef enum { SAME, DIFFERS, NO_CALL } Verdict;
 
+/* The line of the case. */
+extern const uint8_t *case_line;
+extern size_t case_len;
+
 /* Makes the call of a case, whose tokens are in the room, and compares the answer. */
 Verdict replay(uint8_t letter);
 

@@ -4,10 +4,9 @@
  */
 #include "badge_dither.h"
 #include "driver.h"
-#include "room.h"
 
-/* Whether our answer to the case in the room is the recorded one. */
-bool record_stack(uint8_t letter, const uint8_t *bytes, badge_length len);
+/* Whether our answer to the case of a line is the recorded one. */
+bool record_stack(const uint8_t *line, badge_length len);
 
 const char *const records_by = "";
 
@@ -15,7 +14,7 @@ Verdict replay(uint8_t letter)
 {
     if (letter != 'N' && letter != 'M' && letter != 'B')
         return NO_CALL;
-    return record_stack(letter, room, ROOM) ? SAME : DIFFERS;
+    return record_stack(case_line, case_len) ? SAME : DIFFERS;
 }
 
 bool call_larger(void)

@@ -16,13 +16,16 @@ prove_lookups() {
 // A way to the lookups over records.
 #![tactic(auto)]
 
-// The recorded case of a lookup, by its letter.
+use recorded::Room;
+
+// The recorded case of a lookup, by its line.
 #[unsafe(no_mangle)]
-pub extern "C" fn record_stack(letter: u8, room: &[u8]) -> bool {
-    record_cases::same(letter, room)
+pub extern "C" fn record_stack(line: &[u8]) -> bool {
+    let mut room = Room::new();
+    room.decode(line).is_ok() && record_cases::same(recorded::byte_at(line, 0), &room)
 }
 END
-    echo "record_stack staticlib: record_cases" >>"$made/crates.txt"
+    echo "record_stack staticlib: recorded record_cases" >>"$made/crates.txt"
     (cd "$made/crates/record_stack" && rt lib) >"$built/records.log" 2>&1 \
         || die "the lookups were not proved: $built/records.log"
 }

@@ -33,12 +33,14 @@ typedef struct {
 } Taken;
 
 typedef struct {
-    uint8_t tag, number; /* the last tag is that of a refusal */
-    Taken first, second;
+    uint8_t tag, refusal; /* 0, or 1 of a refusal, and then which of them it is */
+    Taken first;
+    uint8_t two; /* of `nearest_two`: whether there is a second */
+    Taken second;
 } Found;
 
 typedef struct {
-    uint8_t tag, number;
+    uint8_t tag, refusal;
     struct {
         uint8_t dark[4], light[4];
         float ratio;
@@ -90,6 +92,13 @@ static void same(bool holds, const char *what)
     }
 }
 
+/* Whether an answer is the refusal with a number. The refusals are numbered as `replies::Refusal` has them. */
+static bool is_refused(uint8_t tag, uint8_t refusal, uint32_t number)
+{
+    static const uint8_t numbers[] = {1, 2, 3, 4, 5, 6, 7, 9, 10, 11, 15};
+    return tag == 1 && refusal < sizeof numbers && numbers[refusal] == number;
+}
+
 /* Whether a record was taken from a position of the list. */
 static bool is_taken(const Taken *taken, uint32_t position)
 {
@@ -109,14 +118,14 @@ static void check_answers(bool by_steps)
     call_nearest();
     number = badge_nearest(FLAT, &first);
     same(number == BADGE_ACCEPTED ? found.tag == 0 && is_taken(&found.first, first)
-                                  : found.tag == 1 && found.number == number,
+                                  : is_refused(found.tag, found.refusal, number),
          "nearest");
 
     call_nearest_two();
     number = badge_nearest_two(FLAT, now.width, &first, &second);
-    same(number == BADGE_ACCEPTED ? found.tag == (first == second) && is_taken(&found.first, first)
+    same(number == BADGE_ACCEPTED ? found.tag == 0 && is_taken(&found.first, first) && found.two == (first != second)
                                         && (first == second || is_taken(&found.second, second))
-                                  : found.tag == 2 && found.number == number,
+                                  : is_refused(found.tag, found.refusal, number),
          "nearest_two");
 
     call_ordered_bracket();
@@ -126,7 +135,7 @@ static void check_answers(bool by_steps)
                                         && found_bracket.bracket.ratio == ratio
                                         && found_bracket.bracket.dark_position == first
                                         && found_bracket.bracket.light_position == second
-                                  : found_bracket.tag == 1 && found_bracket.number == number,
+                                  : is_refused(found_bracket.tag, found_bracket.refusal, number),
          "ordered_bracket");
 }
 

@@ -4,9 +4,9 @@
 //! toolchain's own affair; it is said here as fuzz/stack_records.c says it, which
 //! holds each answer to that of the lookup over flat lists. Since request 4 they
 //! answer positions, too, and today's toolchain hands a slice over as two words,
-//! where the older one handed over the place of the two. An object of before is
-//! measured all the same: which form its answers and its slices have is found by
-//! asking it.
+//! where the older one handed over the place of the two; and what was an enum of
+//! their own is a result. An object of before is measured all the same: which form
+//! its answers and its slices have is found by asking it.
 
 use std::ffi::c_void;
 use std::hint::black_box;
@@ -82,6 +82,17 @@ struct Found<R> {
     second: R,
 }
 
+/// The two as a result: a refusal is which of them it is, and not its number.
+#[repr(C)]
+#[derive(Clone, Copy)]
+struct Both<R> {
+    tag: u8,
+    refusal: u8,
+    first: R,
+    two: u8,
+    second: R,
+}
+
 #[repr(C)]
 #[derive(Clone, Copy)]
 struct FoundBracket<B> {
@@ -93,8 +104,9 @@ struct FoundBracket<B> {
 /// Room for any answer of either form, so that neither has more to clear.
 #[repr(C)]
 union Room<R: Copy, B: Copy> {
-    all: [u64; 9],
+    all: [u64; 10],
     found: Found<R>,
+    both: Both<R>,
     bracket: FoundBracket<B>,
 }
 
@@ -120,6 +132,8 @@ struct Lookups {
     positions: bool,
     /// Whether a slice is handed over as the place of its two words.
     by_place: bool,
+    /// Whether they answer results.
+    results: bool,
 }
 
 impl Lookups {
@@ -133,6 +147,7 @@ impl Lookups {
                 ordered_bracket: loaded.function("records_ordered_bracket")?,
                 positions: true,
                 by_place: true,
+                results: false,
             }
         };
         // A record without a position stands at another place of the answer.
@@ -140,6 +155,8 @@ impl Lookups {
         // Where it is handed over as two words, the second is here the place of a colour:
         // a list of that length is refused, and not read.
         lookups.by_place = !matches!(lookups.answer(Call::Nearest, &[only], [0; 3]), Answer::Refused(_));
+        // An empty list is refused with 4, which is at place 3 of the refusals.
+        lookups.results = lookups.answer(Call::Nearest, &[], [0; 3]) == Answer::Refused(3);
         lookups.positions = lookups.answer(Call::Nearest, &[only], [0; 3]) == Answer::One(only);
         Ok(lookups)
     }
@@ -161,7 +178,7 @@ impl Lookups {
         let (lent, color) = (Lent { at: list.as_ptr(), len: list.len() }, [r, g, b, 255]);
         // By its place a slice is one word, and what comes next is the second.
         let words = |next| if self.by_place { ((&raw const lent).cast(), next) } else { (lent.at, lent.len) };
-        let mut room = Room::<R, B> { all: [0; 9] };
+        let mut room = Room::<R, B> { all: [0; 10] };
         let to = (&raw mut room).cast();
         // SAFETY: what is lent lives as long as the call and does not overlap. The
         // room was cleared, and any bytes are numbers; the tag is in the same place
@@ -178,8 +195,13 @@ impl Lookups {
                     lookup(to, &color, at, len, WIDTH);
                 }
             }
+            if call == Call::NearestTwo && self.results && room.both.tag == 0 {
+                let Both { first, two, second, .. } = room.both;
+                return if two == 0 { Answer::One(first.into()) } else { Answer::Two(first.into(), second.into()) };
+            }
             match (call, room.found.tag) {
-                (Call::Nearest, 0) | (Call::NearestTwo, 1) => Answer::One(room.found.first.into()),
+                (Call::Nearest, 0) => Answer::One(room.found.first.into()),
+                (Call::NearestTwo, 1) if !self.results => Answer::One(room.found.first.into()),
                 (Call::NearestTwo, 0) => Answer::Two(room.found.first.into(), room.found.second.into()),
                 (Call::OrderedBracket, 0) => Answer::Bracket(room.bracket.bracket.into()),
                 _ => Answer::Refused(room.found.number),

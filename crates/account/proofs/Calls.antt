@@ -5,13 +5,11 @@ use mathlib.Core.List.{List}
 use Prim.Native.Nat.{ℕ}
 use lib.IntN.{ℤ}
 use Rattle.patterns.specs.Kinds.{is_diffusion}
-use Rattle.drawing.specs.declared.ColorZero.TheVariants.{Absent}
+use Rattle.std.specs.Prelude.{None, Ok}
 use Rattle.drawing.proofs.FinishedLaws.{pixel_seen, drawn_seen}
-use Rattle.quantize.specs.declared.Quantization.TheVariants.{Accepted}
 use Rattle.quantize.specs.Quantize as quantize
 use Rattle.quantize.specs.Quantize.{Quantized, quantizing}
 use Rattle.quantize.proofs.PixelLaws as quantize_laws
-use Rattle.dither.specs.declared.Dithered.TheVariants.{Count}
 use Rattle.dither.specs.Mode as dither
 use Rattle.dither.specs.Mode.{DitheredToMode, Buffers, dithering, cells_left}
 use Rattle.dither.proofs.PixelLaws as dither_laws
@@ -20,16 +18,16 @@ use Rattle.account.proofs.Shared.{accounted}
 
 -- ---- `quantize_pixels`
 module _ {q : quantize.Commission} {indices₀ out₀ : List ℕ} {cells₀ : List ℤ} {indices out : List ℕ} {cells : List ℤ} where
-  pub quantize_accounted : Quantized q indices₀ out₀ cells₀ Accepted indices out cells → is_diffusion q.kind ≡ true
+  pub quantize_accounted : Quantized q indices₀ out₀ cells₀ (Ok tt) indices out cells → is_diffusion q.kind ≡ true
       → Accounted (quantizing q) q.pixels out cells
   quantize_accounted p k =
       accounted (quantizing q) q.pixels out cells cells₀ (λ i. refl)
-      (λ i h s. quantize_laws.color_here p refl i h ∙ pixel_seen (quantizing q) i (drawn_seen (quantizing q).reduced i Absent s))
+      (λ i h s. quantize_laws.color_here p refl i h ∙ pixel_seen (quantizing q) i (drawn_seen (quantizing q).reduced i None s))
       k p.cell_buffer
 
 -- ---- `dither_to_mode`
 module _ {q : dither.Commission} {was then : Buffers} {n : ℕ} where
-  pub dither_accounted : DitheredToMode q was (Count n) then → is_diffusion q.settings.kind ≡ true
+  pub dither_accounted : DitheredToMode q was (Ok n) then → is_diffusion q.settings.kind ≡ true
       → Accounted (dithering q) q.pixels then.out then.cells
   unfolding cells_left
   dither_accounted p k =

@@ -13,7 +13,8 @@ use Rattle.lists.specs.Gather.{gather}
 use Rattle.lists.proofs.GatherLaws.{gather_same}
 use Rattle.color.specs.declared.NormalizedColor.{NormalizedColor}
 use Rattle.color.specs.Color.{rgba, rgba_at, normalized_at}
-use Rattle.patterns.specs.Kernel.{Target, later}
+use Rattle.patterns.specs.declared.Target.{Target}
+use Rattle.patterns.specs.Kernel.{later}
 use Rattle.patterns.specs.Kinds.{kernel_of, held_of, is_diffusion}
 use Rattle.patterns.proofs.Kernels.{kernel_later, kernel_total, kernel_whole}
 use Rattle.diffusion.specs.Diffusion.{Picture, channel, cell, Alike, Follows}

@@ -5,7 +5,8 @@
 use Rattle.std.specs.Prelude.{◌≡◌, ℕ, ◌+◌, ◌*◌, ◌≤◌, ◌<◌, not, List, ℤ, pos, negsuc, nat_abs, ◌+ℤ◌, ◌≤ℤ◌, length, get_or}
 use Rattle.color.specs.declared.NormalizedColor.{NormalizedColor}
 use Rattle.color.specs.Color.{rgba, normalized_at}
-use Rattle.patterns.specs.Kernel.{Target, total}
+use Rattle.patterns.specs.declared.Target.{Target}
+use Rattle.patterns.specs.Kernel.{total}
 use Rattle.patterns.specs.Kinds.{kernel_of, held_of}
 use Rattle.diffusion.specs.Diffusion.{Picture, channel, loss_of, Follows}
 use Rattle.diffusion.specs.Scatter.{cell_buffer}

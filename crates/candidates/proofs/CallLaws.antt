@@ -5,6 +5,7 @@ use mathlib.Core.Path.{◌≡◌, refl, sym, ap, ◌∙◌, subst}
 use mathlib.Core.Bool.{Bool, true, false, cond, not}
 use mathlib.Core.List.{List, [], ◌∷◌}
 use Prim.Native.Nat.{ℕ, ◌*◌, ◌/◌, ◌%◌, ◌≤◌}
+use Rattle.std.specs.Prelude.{Option, Some, None, Result, Ok, Err}
 use borrow.Author.Tests.{ltb-false, ne_eqb}
 use lib.Dec.{ltb, eqb}
 use lib.Ieee.{Float}
@@ -12,9 +13,13 @@ use lib.ListN.{length, replicate}
 use Rattle.color.specs.declared.ReducedColor.{ReducedColor}
 use Rattle.replies.specs.Replies.{Reply, ◌if◌, first_reply, Lowest, after, NoneApplies}
 use Rattle.replies.specs.Unique.{Unique}
+use Rattle.replies.specs.Refusals.{number, number_of}
+use Rattle.replies.specs.declared.Refusal.{Refusal}
+use Rattle.replies.specs.declared.Refusal.TheVariants.{TooManyCandidates}
 use Rattle.lists.proofs.Bools.{or_split, equals}
 use Rattle.replies.proofs.ReplyLaws.{reply_zero, reply_none, reply_at, reply_front, reply_other, none_both, after_refused}
-use Rattle.replies.proofs.AnswerLaws.{answers, answers_only, answers_lowest, value_number, value_other}
+use Rattle.replies.proofs.AnswerLaws.{answers_only, answers_lowest}
+use Rattle.replies.proofs.RefusalLaws.{answer_number, answered_err, answered_ok}
 use Rattle.reducing.specs.declared.Reducing.{Reducing}
 use Rattle.picture.specs.Bounds.{opaque_needed, lent_wrong}
 use Rattle.picture.specs.Pixels.{basis, reduced_by}
@@ -22,12 +27,8 @@ use Rattle.picture.proofs.BoundLaws.{sized, lent_so}
 use Rattle.candidates.specs.Candidates.{candidates_of}
 use Rattle.candidates.specs.Rooms.{places_with, oklab_with, too_many, Collects}
 use Rattle.candidates.specs.Calls.{Asked, candidates_in, lengths_of, rooms_wrong, lengths_wrong, checks, replies, CandidateColors}
-use Rattle.candidates.specs.Calls.{number_of, answer_of, places_after, oklab_after}
+use Rattle.candidates.specs.Calls.{answer_of, places_after, oklab_after}
 use Rattle.candidates.specs.declared.Lengths.{Lengths}
-use Rattle.candidates.specs.declared.Collected.{Collected}
-use Rattle.candidates.specs.declared.Collected.TheVariants as collected
-use Rattle.candidates.specs.declared.CandidateCount.{CandidateCount}
-use Rattle.candidates.specs.declared.CandidateCount.TheVariants.{Count, Refused}
 
 -- ---- what the checks leave
 -- rooms that are not wrong: at most 65,536 places, and three floats a place
@@ -65,9 +66,10 @@ accepted shift by width height lent e =
     }
 
 -- ---- the answers
-abbrev answer_from : Collected → CandidateCount
-answer_from (collected.Count n) = Count n
-answer_from collected.TooMany = Refused 7
+-- what is answered with what was collected
+abbrev answer_from : Option ℕ → Result ℕ Refusal
+answer_from (Some n) = Ok n
+answer_from None = Err TooManyCandidates
 
 module _ (x : Asked) where
   abbrev checked : List Reply
@@ -79,48 +81,38 @@ module _ (x : Asked) where
   abbrev full : Bool
   full = too_many cs x.places
 
-  -- what is answered with a number has that number
-  own : (n : ℕ) → number_of (answer_of x n) ≡ n
-  own = value_number number_of (replies x) _ Refused refl (λ n. refl)
-
-  -- by the number
-  call_is : {r : CandidateCount} {places : List ℕ} {oklab : List Float} (n : ℕ) → first_reply (replies x) ≡ n → r ≡ answer_of x n
-      → places ≡ places_after x n → oklab ≡ oklab_after x n → CandidateColors x r places oklab
-  call_is {r} n first answer bytes floats =
-      let same : n ≡ number_of r = sym (ap number_of answer ∙ own n) in
-      record {
-        answer = answers number_of (replies x) (answer_of x) own (answer ∙ ap (answer_of x) (sym first));
-        bytes = bytes ∙ ap (places_after x) same;
-        floats = floats ∙ ap (oklab_after x) same;
-      }
-
-  pub call_refused : {r : ℕ} → r ≡ first_reply checked → (r ≡ 0 → ⊥) → CandidateColors x (Refused r) x.places x.oklab
-  call_refused {r} e n =
-      call_is r (reply_front checked (7 if full ∷ []) (λ z. n (e ∙ z)) ∙ sym e) (value_other _ Refused r n)
-      (after_refused r (places_with cs x.places) x.places n
-      ∙ ap (λ (b : Bool). cond b (replicate (length x.places) 0) (after r (places_with cs x.places) x.places)) (sym (ne_eqb r 7 not_seven)))
-      (after_refused r (oklab_with x.scale cs x.oklab) x.oklab n)
+  pub call_refused : {e : Refusal} → number e ≡ first_reply checked → CandidateColors x (Err e) x.places x.oklab
+  call_refused {e} n = record {
+    answer = answered_err (replies x) _ (n ∙ sym (reply_front checked (7 if full ∷ []) (λ z. some (n ∙ z))));
+    bytes =
+        after_refused (number e) (places_with cs x.places) x.places some
+        ∙ ap (λ (b : Bool). cond b (replicate (length x.places) 0) (after (number e) (places_with cs x.places) x.places)) (sym (ne_eqb (number e) 7 not_seven));
+    floats = after_refused (number e) (oklab_with x.scale cs x.oklab) x.oklab some;
+  }
     where
-      not_seven : r ≡ 7 → ⊥
-      not_seven q = reply_other 7 checked tt (sym e ∙ q)
+      -- the result has 0
+      some : number e ≡ 0 → ⊥
+      some z = let q = answer_number (length cs) e ∙ ap (answer_of x) z in cc
 
-  -- what is collected of the pixels that reduce
-  pub call_collected : first_reply checked ≡ 0 → {pixels : List ℕ} → pixels ≡ basis x.reducing x.pixels x.opaque
-      → {r s : Collected} {places : List ℕ} {oklab : List Float}
-      → Collects (candidates_of (reduced_by x.reducing x.reduction pixels) (x.width * x.height)) x.scale x.places x.oklab s places oklab
+      not_seven : number e ≡ 7 → ⊥
+      not_seven q = reply_other 7 checked tt (sym n ∙ q)
+
+  -- what is collected of the pixels that reduce, through the tables as arrays
+  pub call_collected : first_reply checked ≡ 0 → {reduction scale pixels : List ℕ} → reduction ≡ x.reduction → scale ≡ x.scale
+      → pixels ≡ basis x.reducing x.pixels x.opaque → {r s : Option ℕ} {places : List ℕ} {oklab : List Float}
+      → Collects (candidates_of (reduced_by x.reducing reduction pixels) (x.width * x.height)) scale x.places x.oklab s places oklab
       → s ≡ r → CandidateColors x (answer_from r) places oklab
   unfolding candidates_in
-  call_collected free {pixels} they_are {r} {s} {places} {oklab} of_these same = go full refl
+  call_collected free table scales they_are {r} {s} {places} {oklab} of_these same = go full refl
     where
       p : Collects cs x.scale x.places x.oklab s places oklab
-      p = subst (λ (l : List ℕ). Collects (candidates_of (reduced_by x.reducing x.reduction l) (x.width * x.height)) x.scale x.places x.oklab s places oklab)
-          they_are of_these
+      p = rw (table, scales, they_are) at of_these
 
       none : NoneApplies checked
       none = reply_none checked tt free
 
-      answer : {t : Bool} → full ≡ t → answer_from r ≡ answer_from (cond t collected.TooMany (collected.Count (length cs)))
-      answer t = ap answer_from (sym same ∙ p.answer ∙ ap (λ (b : Bool). cond b collected.TooMany (collected.Count (length cs))) t)
+      answer : {t : Bool} → full ≡ t → cond t None (Some (length cs)) ≡ r
+      answer t = sym (p.answer ∙ ap (λ (b : Bool). cond b None (Some (length cs))) t) ∙ same
 
       bytes : {t : Bool} → full ≡ t → places ≡ cond t (replicate (length x.places) 0) (places_with cs x.places)
       bytes t = p.bytes ∙ ap (λ (b : Bool). cond b (replicate (length x.places) 0) (places_with cs x.places)) t
@@ -129,16 +121,24 @@ module _ (x : Asked) where
       floats t = p.floats ∙ ap (λ (b : Bool). cond b x.oklab (oklab_with x.scale cs x.oklab)) t
 
       go : (t : Bool) → full ≡ t → CandidateColors x (answer_from r) places oklab
-      go true t = call_is 7 (reply_at checked (7 if full) [] none t) (answer t) (bytes t) (floats t)
-      go false t = call_is 0 (reply_zero (replies x) (none_both checked (7 if full ∷ []) none (t, tt))) (answer t) (bytes t) (floats t)
+      go true t = subst (λ (r : Option ℕ). CandidateColors x (answer_from r) places oklab) (answer t) (record {
+        answer = answered_err (replies x) _ (sym (reply_at checked (7 if full) [] none t));
+        bytes = bytes t;
+        floats = floats t;
+      })
+      go false t = subst (λ (r : Option ℕ). CandidateColors x (answer_from r) places oklab) (answer t) (record {
+        answer = answered_ok (replies x) _ (reply_zero (replies x) (none_both checked (7 if full ∷ []) none (t, tt))) refl;
+        bytes = bytes t;
+        floats = floats t;
+      })
 
   -- ---- the number, and one result
-  pub number_is : {r : CandidateCount} {places : List ℕ} {oklab : List Float} → CandidateColors x r places oklab → Lowest (replies x) (number_of r)
+  pub number_is : {r : Result ℕ Refusal} {places : List ℕ} {oklab : List Float} → CandidateColors x r places oklab → Lowest (replies x) (number_of r)
   number_is p = answers_lowest _ _ _ tt p.answer
 
-  pub colors_only : Unique (λ (y : CandidateCount × List ℕ × List Float). CandidateColors x y.0 y.1 y.2)
+  pub colors_only : Unique (λ (y : Result ℕ Refusal × List ℕ × List Float). CandidateColors x y.0 y.1 y.2)
   colors_only y z p q =
       let same : y.0 ≡ z.0 = answers_only number_of (replies x) (answer_of x) y.0 z.0 p.answer q.answer in
-      let bytes : y.1 ≡ z.1 = p.bytes ∙ ap (λ (r : CandidateCount). places_after x (number_of r)) same ∙ sym q.bytes in
-      let floats : y.2 ≡ z.2 = p.floats ∙ ap (λ (r : CandidateCount). oklab_after x (number_of r)) same ∙ sym q.floats in
+      let bytes : y.1 ≡ z.1 = p.bytes ∙ ap (λ (r : Result ℕ Refusal). places_after x (number_of r)) same ∙ sym q.bytes in
+      let floats : y.2 ≡ z.2 = p.floats ∙ ap (λ (r : Result ℕ Refusal). oklab_after x (number_of r)) same ∙ sym q.floats in
       λ i. (same i, bytes i, floats i)

@@ -2,10 +2,11 @@
 -- Written from document 01, "Bounds and replies": the rows 1, 2, 3 and 7 of its table, "Candidate places 0..65,536, four bytes each, with three f32
 -- each beside them", "Buffers have exactly the length needed", "The lowest number that applies is given"; and from document 02, Ask 5: "Refusals: 1 for any other pairing", "3 covers
 -- the new buffer".
-use Rattle.std.specs.Prelude.{ℕ, ◌*◌, ◌/◌, ◌%◌, ◌≡◌, Bool, cond, not, ◌||◌, List, [], ◌∷◌, ◌++◌, ltb, eqb, Float, length, replicate}
+use Rattle.std.specs.Prelude.{ℕ, ◌*◌, ◌/◌, ◌%◌, ◌≡◌, Bool, cond, not, ◌||◌, List, [], ◌∷◌, ◌++◌, ltb, eqb, Float, length, replicate, Result}
 use Rattle.color.specs.declared.ReducedColor.{ReducedColor}
 use Rattle.replies.specs.Replies.{Reply, ◌if◌, after}
-use Rattle.replies.specs.Answers.{Answers, value_or}
+use Rattle.replies.specs.Refusals.{number_of, answer, Answered}
+use Rattle.replies.specs.declared.Refusal.{Refusal}
 use Rattle.reducing.specs.declared.Reducing.{Reducing}
 use Rattle.reducing.specs.Reduce.{is_pairing}
 use Rattle.picture.specs.Bounds.{size_wrong, lent_wrong}
@@ -13,8 +14,6 @@ use Rattle.picture.specs.Pixels.{basis, reduced_by}
 use Rattle.candidates.specs.Candidates.{candidates_of}
 use Rattle.candidates.specs.Rooms.{places_with, oklab_with, too_many}
 use Rattle.candidates.specs.declared.Lengths.{Lengths}
-use Rattle.candidates.specs.declared.CandidateCount.{CandidateCount}
-use Rattle.candidates.specs.declared.CandidateCount.TheVariants.{Count, Refused}
 
 -- what the call is asked, with the rooms as they are lent
 pub record Asked : Type 0 where
@@ -58,14 +57,9 @@ checks shift by width height lent = 1 if not (is_pairing by shift) ∷ 2 if size
 abbrev pub replies : Asked → List Reply
 replies x = checks x.shift x.reducing x.width x.height (lengths_of x) ++ 7 if too_many (candidates_in x) x.places ∷ []
 
--- document 01's number of an answer
-abbrev pub number_of : CandidateCount → ℕ
-number_of (Count n) = 0
-number_of (Refused n) = n
-
 -- what is answered with a number
-abbrev pub answer_of : Asked → ℕ → CandidateCount
-answer_of x = value_or (Count (length (candidates_in x))) Refused
+abbrev pub answer_of : Asked → ℕ → Result ℕ Refusal
+answer_of x = answer (length (candidates_in x))
 
 -- the places after number n: the candidates; all 0 after 7; else as they were
 abbrev pub places_after : Asked → ℕ → List ℕ
@@ -76,7 +70,7 @@ abbrev pub oklab_after : Asked → ℕ → List Float
 oklab_after x n = after n (oklab_with x.scale (candidates_in x) x.oklab) x.oklab
 
 -- what `candidate_colors_in` promises: the answer, and both rooms after its number
-pub record CandidateColors (x : Asked) (r : CandidateCount) (places : List ℕ) (oklab : List Float) : Type 0 where
-  pub answer : Answers number_of (replies x) (answer_of x) r
+pub record CandidateColors (x : Asked) (r : Result ℕ Refusal) (places : List ℕ) (oklab : List Float) : Type 0 where
+  pub answer : Answered (replies x) (length (candidates_in x)) r
   pub bytes : places ≡ places_after x (number_of r)
   pub floats : oklab ≡ oklab_after x (number_of r)

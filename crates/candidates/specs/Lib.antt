@@ -3,6 +3,8 @@ pub mod Kept
 pub mod Candidates
 pub mod Marks
 pub mod Numbers
+pub mod Sources
+pub mod Passes
 pub mod Rooms
 pub mod Steps
 pub mod Calls

@@ -2,14 +2,12 @@
 // tokens, calls, and compares the answer. A case whose tokens have not the widths that its call wants differs.
 #![tactic(auto)]
 
-use color::{Distance, NormalizedColor, Oklab, ReducedColor};
-use lookup::{Bracket, Choice, Found, FoundBracket, FoundTwo, Picked, Second, Two};
-use mixing::Width;
-use patterns::Thresholded;
-use recorded::{
-    ANY, are_floats, byte_at, float_at, floats, is_byte, is_float, is_long, is_position,
-    is_refusal, number, part, reduced, shaped, word,
-};
+ghost use Rattle.std.specs.Prelude.{IsTrue, IfOk, true};
+
+use color::{NormalizedColor, Oklab, ReducedColor};
+use lookup::{Bracket, Choice, Two};
+use recorded::{ANY, BYTE, COLOR, LONG, Room, WORD, byte_at, float_at};
+use replies::Refusal;
 
 // Colour i of a list of colours without alpha.
 pub fn color_at(p: &[u8], i: u8) -> NormalizedColor {
@@ -28,177 +26,167 @@ pub fn oklab_at(p: &[u8], i: u8) -> Oklab {
 }
 
 // Whether token k is this colour.
-fn is_color(room: &[u8], k: usize, c: ReducedColor) -> bool {
-    let bytes = [c.0.r, c.0.g, c.0.b, c.0.a];
-    part(room, k) == bytes.as_slice()
+fn is_color(room: &Room, k: usize, c: ReducedColor) -> bool {
+    room.part(k) == [c.0.r, c.0.g, c.0.b, c.0.a].as_slice()
+}
+
+// Whether the tokens from k on are this answer: 0 and what is tested, or the number of a refusal alone. The test holds of
+// a value that is the recorded one.
+pub fn is_answer<A: Copy, F: FnOnce(A) -> bool + Drop>(
+    room: &Room,
+    k: usize,
+    answer: Result<A, Refusal>,
+    test: F,
+) -> bool
+    requires { F.IsAlwaysCallable test }
+    ensures { IsTrue result → IfOk answer (λ a. F.post test a true) }
+{
+    match answer {
+        Ok(a) => room.is_byte(k, 0) & test(a),
+        Err(refusal) => room.is_refusal(k, refusal.number()),
+    }
 }
 
 // ---- the calls on single values
 
 // e: two reduced colours | equal
-fn eq_rgb(room: &[u8]) -> bool {
-    if !shaped(room, &[4, 4, 1]) {
+fn eq_rgb(room: &Room) -> bool {
+    if !room.shaped(&[WORD, WORD, BYTE]) {
         return false;
     }
-    let equal = color::eq_rgb(reduced(room, 0), reduced(room, 1));
-    is_byte(room, 2, equal as u8)
+    let equal = color::eq_rgb(room.reduced(0), room.reduced(1));
+    room.is_byte(2, u8::from(equal))
 }
 
 // o: color | lightness a b
-fn to_oklab(room: &[u8]) -> bool {
-    if !shaped(room, &[3, 12]) {
+fn to_oklab(room: &Room) -> bool {
+    if !room.shaped(&[COLOR, Some(12)]) {
         return false;
     }
-    let o = conversion::to_oklab(color_at(part(room, 0), 0));
-    let floats = [o.l, o.a, o.b];
-    are_floats(room, 1, &floats)
+    let o = conversion::to_oklab(color_at(room.part(0), 0));
+    room.are_floats(1, &[o.l, o.a, o.b])
 }
 
 // d: two Oklab colours | number distance
-fn oklab_sqdist(room: &[u8]) -> bool {
-    if !shaped(room, &[24, 1, ANY]) {
+fn oklab_sqdist(room: &Room) -> bool {
+    if !room.shaped(&[Some(24), BYTE, ANY]) {
         return false;
     }
-    let six = part(room, 0);
-    match color::oklab_sqdist(oklab_at(six, 0), oklab_at(six, 1)) {
-        Distance::Squared(d) => is_byte(room, 1, 0) & is_float(room, 2, d),
-        Distance::Refused(n) => is_refusal(room, 1, n),
-    }
+    let six = room.part(0);
+    let answer = color::oklab_sqdist(oklab_at(six, 0), oklab_at(six, 1));
+    is_answer(room, 1, answer, |d| room.is_float(2, d))
 }
 
 // t: kind x y | number threshold
-fn ordered_threshold(room: &[u8]) -> bool {
-    if !shaped(room, &[4, 4, 4, 1, ANY]) {
+fn ordered_threshold(room: &Room) -> bool {
+    if !room.shaped(&[WORD, WORD, WORD, BYTE, ANY]) {
         return false;
     }
-    match patterns::ordered_threshold(word(room, 0), word(room, 1), word(room, 2)) {
-        Thresholded::At(threshold) => is_byte(room, 3, 0) & is_float(room, 4, threshold),
-        Thresholded::Refused(n) => is_refusal(room, 3, n),
-    }
+    let answer = patterns::ordered_threshold(room.word(0), room.word(1), room.word(2));
+    is_answer(room, 3, answer, |threshold| room.is_float(4, threshold))
 }
 
 // w: shift max | number width
-fn bracket_width(room: &[u8]) -> bool {
-    if !shaped(room, &[4, 8, 1, ANY]) {
+fn bracket_width(room: &Room) -> bool {
+    if !room.shaped(&[WORD, LONG, BYTE, ANY]) {
         return false;
     }
-    match mixing::bracket_width(word(room, 0), number(room, 1)) {
-        Width::Of(w) => is_byte(room, 2, 0) & is_long(room, 3, w),
-        Width::Refused(n) => is_refusal(room, 2, n),
-    }
+    let answer = mixing::bracket_width(room.word(0), room.number(1));
+    is_answer(room, 2, answer, |width| room.is_long(3, width))
 }
 
 // l: three colours, clamp | value
-fn lerp(room: &[u8]) -> bool {
-    if !shaped(room, &[9, 1, 4]) {
+fn lerp(room: &Room) -> bool {
+    if !room.shaped(&[Some(9), BYTE, WORD]) {
         return false;
     }
-    let colors = part(room, 0);
-    let clamp = number(room, 1) != 0;
+    let colors = room.part(0);
+    let clamp = room.number(1) != 0;
     let t = mixing::lerp(
         color_at(colors, 0),
         color_at(colors, 1),
         color_at(colors, 2),
         clamp,
     );
-    is_float(room, 2, t)
+    room.is_float(2, t)
 }
 
-// Whether the tokens from 6 on are this choice, of dark at position 0 and light at 1. Light of dark's colour is never picked.
-fn is_choice(room: &[u8], dark: ReducedColor, choice: Choice) -> bool {
-    let color = choice.color;
+// Whether token 7 is this choice, of dark at position 0 and light at 1. Light of dark's colour is never picked.
+fn is_choice(room: &Room, dark: ReducedColor, choice: Choice) -> bool {
     let light = !is_color(room, 7, dark);
-    is_byte(room, 6, 0) & (is_color(room, 7, color) & (choice.position == light as usize))
+    is_color(room, 7, choice.color) & (choice.position == usize::from(light))
 }
 
 // p: dark light ratio kind x y | number chosen
-fn pick(room: &[u8]) -> bool {
-    if !shaped(room, &[4, 4, 4, 4, 4, 4, 1, ANY]) {
+fn pick(room: &Room) -> bool {
+    if !room.shaped(&[WORD, WORD, WORD, WORD, WORD, WORD, BYTE, ANY]) {
         return false;
     }
-    let dark = reduced(room, 0);
+    let dark = room.reduced(0);
     let bracket = Bracket {
         dark,
-        light: reduced(room, 1),
-        ratio: float_at(part(room, 2), 0),
+        light: room.reduced(1),
+        ratio: float_at(room.part(2), 0),
         dark_position: 0,
         light_position: 1,
     };
-    match lookup::pick(bracket, word(room, 3), word(room, 4), word(room, 5)) {
-        Picked::Of(choice) => is_choice(room, dark, choice),
-        Picked::Refused(n) => is_refusal(room, 6, n),
-    }
+    let answer = lookup::pick(bracket, room.word(3), room.word(4), room.word(5));
+    is_answer(room, 6, answer, |choice| is_choice(room, dark, choice))
 }
 
 // ---- the lookups, whose list's Oklab colours are lent as floats
 
 // n: reduced normalized oklab color | number position
-fn nearest(room: &[u8], oklab: &[f32]) -> bool {
-    if !shaped(room, &[ANY, ANY, ANY, 3, 1, ANY]) {
+fn nearest(room: &Room, oklab: &[f32]) -> bool {
+    if !room.shaped(&[ANY, ANY, ANY, COLOR, BYTE, ANY]) {
         return false;
     }
-    let color = color_at(part(room, 3), 0);
-    match lookup::flat_nearest(part(room, 0), part(room, 1), oklab, color) {
-        Found::At(position) => is_byte(room, 4, 0) & is_position(room, 5, position),
-        Found::Refused(n) => is_refusal(room, 4, n),
-    }
+    let color = color_at(room.part(3), 0);
+    let answer = lookup::flat_nearest(room.part(0), room.part(1), oklab, color);
+    is_answer(room, 4, answer, |position| room.is_position(5, position))
 }
 
-// The second's position, the first's where there is none.
-fn second_of(two: Two) -> usize {
-    let second = two.second;
-    match second {
-        Second::At(position) => position,
-        Second::Nothing => two.first,
-    }
-}
-
-fn are_two(room: &[u8], two: Two) -> bool {
-    is_byte(room, 5, 0) & (is_position(room, 6, two.first) & is_position(room, 7, second_of(two)))
+// Whether the tokens 6 and 7 are these positions, the first's twice where there is no second.
+fn are_two(room: &Room, two: Two) -> bool {
+    room.is_position(6, two.first) & room.is_position(7, two.second.unwrap_or(two.first))
 }
 
 // m: reduced normalized oklab color width | number first second
-fn nearest_two(room: &[u8], oklab: &[f32]) -> bool {
-    if !shaped(room, &[ANY, ANY, ANY, 3, 8, 1, ANY, ANY]) {
+fn nearest_two(room: &Room, oklab: &[f32]) -> bool {
+    if !room.shaped(&[ANY, ANY, ANY, COLOR, LONG, BYTE, ANY, ANY]) {
         return false;
     }
-    let color = color_at(part(room, 3), 0);
-    match lookup::flat_nearest_two(part(room, 0), part(room, 1), oklab, color, number(room, 4)) {
-        FoundTwo::At(two) => are_two(room, two),
-        FoundTwo::Refused(n) => is_refusal(room, 5, n),
-    }
+    let color = color_at(room.part(3), 0);
+    let width = room.number(4);
+    let answer = lookup::flat_nearest_two(room.part(0), room.part(1), oklab, color, width);
+    is_answer(room, 5, answer, |two| are_two(room, two))
 }
 
-// Whether the tokens from 5 on are this bracket.
-pub fn is_bracket(room: &[u8], bracket: Bracket) -> bool {
-    let dark = bracket.dark;
-    let light = bracket.light;
-    let colors = is_color(room, 6, dark) & is_color(room, 7, light);
-    let positions = is_position(room, 9, bracket.dark_position)
-        & is_position(room, 10, bracket.light_position);
-    is_byte(room, 5, 0) & (colors & (is_float(room, 8, bracket.ratio) & positions))
+// Whether the tokens from 6 on are this bracket.
+pub fn is_bracket(room: &Room, bracket: Bracket) -> bool {
+    let colors = is_color(room, 6, bracket.dark) & is_color(room, 7, bracket.light);
+    let positions = room.is_position(9, bracket.dark_position)
+        & room.is_position(10, bracket.light_position);
+    colors & (room.is_float(8, bracket.ratio) & positions)
 }
 
 // b: reduced normalized oklab color width | number dark light ratio dark_position light_position
-fn ordered_bracket(room: &[u8], oklab: &[f32]) -> bool {
-    if !shaped(room, &[ANY, ANY, ANY, 3, 8, 1, ANY, ANY, ANY, ANY, ANY]) {
+fn ordered_bracket(room: &Room, oklab: &[f32]) -> bool {
+    if !room.shaped(&[ANY, ANY, ANY, COLOR, LONG, BYTE, ANY, ANY, ANY, ANY, ANY]) {
         return false;
     }
-    let color = color_at(part(room, 3), 0);
-    match lookup::flat_ordered_bracket(
-        part(room, 0),
-        part(room, 1),
-        oklab,
-        color,
-        number(room, 4),
-    ) {
-        FoundBracket::Of(bracket) => is_bracket(room, bracket),
-        FoundBracket::Refused(n) => is_refusal(room, 5, n),
-    }
+    let color = color_at(room.part(3), 0);
+    let width = room.number(4);
+    let answer = lookup::flat_ordered_bracket(room.part(0), room.part(1), oklab, color, width);
+    is_answer(room, 5, answer, |bracket| is_bracket(room, bracket))
 }
 
-fn looked_up(letter: u8, room: &[u8], oklab: &mut [f32]) -> bool {
-    if !floats(room, 2, oklab) {
+fn look_up(letter: u8, room: &Room) -> bool {
+    let mut floats = [0.0; 1024];
+    let Some(oklab) = floats.get_mut(..room.part(2).len() / 4) else {
+        return false;
+    };
+    if !room.floats(2, oklab) {
         return false;
     }
     match letter {
@@ -208,17 +196,8 @@ fn looked_up(letter: u8, room: &[u8], oklab: &mut [f32]) -> bool {
     }
 }
 
-fn look_up(letter: u8, room: &[u8]) -> bool {
-    let mut oklab = [0.0f32; 1024];
-    let n = part(room, 2).len() / 4;
-    if n <= 1024 {
-        return looked_up(letter, room, &mut oklab[0..n]);
-    }
-    false
-}
-
 // Whether our answer to a case is the recorded one.
-pub fn same(letter: u8, room: &[u8]) -> bool {
+pub fn same(letter: u8, room: &Room) -> bool {
     match letter {
         b'e' => eq_rgb(room),
         b'o' => to_oklab(room),

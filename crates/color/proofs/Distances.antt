@@ -1,22 +1,22 @@
 -- Oklab distances. A component that passes the test of range is `Within 2`; so the distance of accepted colours is finite, at most 112, not
 -- negative and not -0, and ordinary comparison puts such distances in their order. And what `oklab_sqdist` answers, by its number. Assumes nothing.
 use mathlib.Core.Path.{◌≡◌, refl}
-use Prim.Native.Nat.{ℕ}
 use mathlib.Core.Bool.{◌&&◌}
 use lib.Dec.{T, lit≤, lit<}
 use lib.Ieee.{Float, binary32, round, add, sub, mul, neg, le, of_bits, fits}
 use lib.Ieee.Fits.{and_l, and_r, and_i, add-fits}
+use Rattle.std.specs.Prelude.{Result}
 use Rattle.replies.specs.Replies.{Lowest}
-use Rattle.replies.proofs.AnswerLaws.{answers_lowest, value_promised}
+use Rattle.replies.specs.Refusals.{number_of}
+use Rattle.replies.specs.declared.Refusal.{Refusal}
+use Rattle.replies.proofs.AnswerLaws.{answers_lowest}
 use Rattle.floats.specs.Over.{over}
 use Rattle.floats.specs.Bounds.{Within, Upto}
 use Rattle.floats.proofs.Range.{within_of_le, le_of_within}
 use Rattle.floats.proofs.Within.{round_upto, mul_upto, square_upto, add_upto, sub_within}
 use Rattle.color.specs.declared.Oklab.{Oklab}
-use Rattle.color.specs.declared.Distance.{Distance}
-use Rattle.color.specs.declared.Distance.TheVariants.{Refused}
 use Rattle.color.specs.Oklab.{two, chroma, square, in_range, all_in_range, sqdist_of}
-use Rattle.color.specs.Oklab.{number_of, distance_replies, distance_answer, OklabSqdistAnswered, distance_of}
+use Rattle.color.specs.Oklab.{distance_replies, OklabSqdistAnswered}
 
 -- ---- components
 pub in_range_lem : (x : Float) → T (in_range x) → Within 2 x
@@ -79,8 +79,5 @@ distance_fits p q =
 
 -- ---- the answer
 module _ (a b : Oklab) where
-  pub distance_promised : {r : Distance} → r ≡ distance_of a b → OklabSqdistAnswered a b r
-  distance_promised e = value_promised number_of (distance_replies a b) _ Refused refl (λ n. refl) e
-
-  pub distance_lowest : {r : Distance} → OklabSqdistAnswered a b r → Lowest (distance_replies a b) (number_of r)
+  pub distance_lowest : {r : Result Float Refusal} → OklabSqdistAnswered a b r → Lowest (distance_replies a b) (number_of r)
   distance_lowest p = answers_lowest _ _ _ tt p

@@ -1,14 +1,13 @@
 -- Oklab colours and their weighted squared distance, in the Rust's order of operations, each rounded to an f32. Definitions only.
 -- Written from `oklab_sqdist` of src/color.rs, and from document 01: "weight 2.15", and refusal 6.
-use Rattle.std.specs.Prelude.{ℕ, ◌+◌, ◌*◌, Bool, ◌&&◌, not, false, List, [], ◌∷◌, pos, get_or, Float}
+use Rattle.std.specs.Prelude.{ℕ, ◌+◌, ◌*◌, Bool, ◌&&◌, not, false, List, [], ◌∷◌, pos, get_or, Float, Result}
 use Rattle.std.specs.Float.{nan, fin, binary32}
 use Rattle.std.specs.Float.Ieee.{add, sub, mul, neg, le}
 use Rattle.replies.specs.Replies.{Reply, ◌if◌, first_reply}
-use Rattle.replies.specs.Answers.{Answers, value_or}
+use Rattle.replies.specs.Refusals.{answer, Answered}
+use Rattle.replies.specs.declared.Refusal.{Refusal}
 use Rattle.floats.specs.Over.{over}
 use Rattle.color.specs.declared.Oklab.{Oklab}
-use Rattle.color.specs.declared.Distance.{Distance}
-use Rattle.color.specs.declared.Distance.TheVariants.{Squared, Refused}
 
 -- 2.0
 abbrev pub two : Float
@@ -34,25 +33,20 @@ sqdist_of a b =
     add binary32 (square (sub binary32 a.l b.l))
     (mul binary32 chroma (add binary32 (square (sub binary32 a.a b.a)) (square (sub binary32 a.b b.b))))
 
--- document 01's number of an answer
-abbrev pub number_of : Distance → ℕ
-number_of (Squared d) = 0
-number_of (Refused n) = n
-
 -- the numbers of `oklab_sqdist`, and when each applies: 6 where a component is not from -2 to 2
 abbrev pub distance_replies : (a b : Oklab) → List Reply
 distance_replies a b = (6 if not (all_in_range a && all_in_range b)) ∷ []
 
--- what it answers with a number: the distance with 0, and else the number alone
-abbrev pub distance_answer : (a b : Oklab) → ℕ → Distance
-distance_answer a b = value_or (Squared (sqdist_of a b)) Refused
+-- what it answers with a number: the distance with 0, and else the refusal with the number
+abbrev pub distance_answer : (a b : Oklab) → ℕ → Result Float Refusal
+distance_answer a b = answer (sqdist_of a b)
 
 -- what `oklab_sqdist` promises of its answer r
-abbrev pub OklabSqdistAnswered : (a b : Oklab) → Distance → Type 0
-OklabSqdistAnswered a b r = Answers number_of (distance_replies a b) (distance_answer a b) r
+abbrev pub OklabSqdistAnswered : (a b : Oklab) → Result Float Refusal → Type 0
+OklabSqdistAnswered a b r = Answered (distance_replies a b) (sqdist_of a b) r
 
 -- the answer that has the promise (`answered` in replies/proofs/AnswerLaws)
-abbrev pub distance_of : (a b : Oklab) → Distance
+abbrev pub distance_of : (a b : Oklab) → Result Float Refusal
 distance_of a b = distance_answer a b (first_reply (distance_replies a b))
 
 -- colour i of a list of floats, three a colour

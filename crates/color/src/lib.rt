@@ -7,12 +7,14 @@
 
 ghost use Rattle.std.specs.Prelude.{◌≡◌, ◌+◌, ◌*◌, ◌<◌, length, get_or};
 ghost use Rattle.std.proofs.lemmas.List.Edits.{sets};
-ghost use Rattle.color.specs.Color.{rgba, is_transparent, same_reduced, EqRgbAnswered, rgba_at, bytes_of};
+ghost use Rattle.color.specs.Color.{rgba, is_transparent, EqRgbAnswered, rgba_at, bytes_of};
 ghost use Rattle.color.specs.Tables.{normalize_color};
 ghost use Rattle.color.specs.Oklab.{in_range, all_in_range, sqdist_of, OklabSqdistAnswered, oklab_at, floats_of};
 
+use replies::Refusal;
+
 // A raw colour, eight bits a channel.
-#[derive(Clone, Copy)]
+#[derive(Clone, Copy, Debug, PartialEq, Eq, Hash)]
 pub struct Rgba8888 {
     pub r: u8,
     pub g: u8,
@@ -36,7 +38,10 @@ impl Rgba8888 {
 }
 
 // A colour at full precision.
-#[derive(Clone, Copy)]
+//
+// Kept apart from `ReducedColor`, as in src/color.rs: neither may stand for the other, and one type over a marker would be no
+// plainer.
+#[derive(Clone, Copy, Debug, PartialEq, Eq, Hash)]
 pub struct NormalizedColor(pub Rgba8888);
 
 impl NormalizedColor {
@@ -50,7 +55,7 @@ impl NormalizedColor {
 }
 
 // A colour at a mode's own precision.
-#[derive(Clone, Copy)]
+#[derive(Clone, Copy, Debug, PartialEq, Eq, Hash)]
 pub struct ReducedColor(pub Rgba8888);
 
 impl ReducedColor {
@@ -70,22 +75,19 @@ impl ReducedColor {
 }
 
 // Whether two colours have the same red, green and blue, whatever their alphas are.
+//
+// Kept: a derived `==` would ask for the alphas too.
+#[tactic(auto, unfolding(crate::specs::Color::same_rgb))]
 pub fn eq_rgb(a: ReducedColor, b: ReducedColor) -> bool
     ensures { EqRgbAnswered a b result }
 {
     (a.0.r == b.0.r) & ((a.0.g == b.0.g) & (a.0.b == b.0.b))
 }
 
-// Whether two colours have the same four bytes: the Rust's `==`.
-pub fn same_reduced(a: ReducedColor, b: ReducedColor) -> bool
-    ensures { result ≡ same_reduced a b }
-{
-    (a.0.r == b.0.r) & ((a.0.g == b.0.g) & ((a.0.b == b.0.b) & (a.0.a == b.0.a)))
-}
-
 // ---- colours in lent bytes, four a colour
 
 // Colour i of a lent list. No public call: the caller sees to the length.
+#[tactic(auto, unfolding(crate::specs::Color::rgba_at))]
 pub fn rgba_at(bytes: &[u8], i: usize) -> Rgba8888
     requires { 4 * i + 3 < length bytes.now }
     ensures { result ≡ rgba_at bytes.now i }
@@ -113,17 +115,16 @@ pub fn put_rgba(bytes: &mut [u8], i: usize, c: Rgba8888)
 
 // ---- through a lent table
 
-// The entry of a lent table for a byte. No public call: the caller sees to the table's length.
-pub fn looked_up(table: &[u8], v: u8) -> u8
-    requires { length table.now ≡ 256 }
+// The entry of a lent table for a byte.
+pub fn looked_up(table: &[u8; 256], v: u8) -> u8
     ensures { result ≡ get_or table.now v 0 }
 {
     table[v as usize]
 }
 
-// All four bytes through the scale table. No public call: the caller sees to the table's length.
-pub fn normalize_color(scale: &[u8], c: ReducedColor) -> NormalizedColor
-    requires { length scale.now ≡ 256 }
+// All four bytes through the scale table.
+#[tactic(auto, unfolding(crate::specs::Tables::normalize_color))]
+pub fn normalize_color(scale: &[u8; 256], c: ReducedColor) -> NormalizedColor
     ensures { result ≡ normalize_color scale.now c }
 {
     NormalizedColor(Rgba8888 {
@@ -136,7 +137,7 @@ pub fn normalize_color(scale: &[u8], c: ReducedColor) -> NormalizedColor
 
 // ---- Oklab
 
-#[derive(Clone, Copy)]
+#[derive(Clone, Copy, Debug, PartialEq)]
 pub struct Oklab {
     pub l: f32,
     pub a: f32,
@@ -144,18 +145,11 @@ pub struct Oklab {
 }
 
 // A candidate: a reduced colour, its full precision form, and that form's Oklab colour.
-#[derive(Clone, Copy)]
+#[derive(Clone, Copy, Debug, PartialEq)]
 pub struct CandidateColor {
     pub reduced: ReducedColor,
     pub normalized: NormalizedColor,
     pub oklab: Oklab,
-}
-
-// What `oklab_sqdist` answers.
-#[derive(Clone, Copy)]
-pub enum Distance {
-    Squared(f32),
-    Refused(u8),
 }
 
 // How much a difference of chroma counts beside one of lightness.
@@ -168,6 +162,7 @@ pub fn in_range(x: f32) -> bool
     (-2.0 <= x) & (x <= 2.0)
 }
 
+#[tactic(auto, unfolding(crate::specs::Oklab::all_in_range))]
 pub fn all_in_range(c: Oklab) -> bool
     ensures { result ≡ all_in_range c }
 {
@@ -185,18 +180,20 @@ pub fn sqdist(a: Oklab, b: Oklab) -> f32
 }
 
 // The squared distance, or 6 where a component is not from -2 to 2.
-pub fn oklab_sqdist(a: Oklab, b: Oklab) -> Distance
+pub fn oklab_sqdist(a: Oklab, b: Oklab) -> Result<f32, Refusal>
     ensures { OklabSqdistAnswered a b result }
 {
     if all_in_range(a) & all_in_range(b) {
-        return Distance::Squared(sqdist(a, b));
+        return Ok(sqdist(a, b));
     }
-    Distance::Refused(6)
+    Err(Refusal::Component)
 }
 
 // ---- Oklab colours in lent floats, three a colour
+// Kept beside those of bytes: one pair over both would take a trait with a size and two conversions for each, and be no plainer.
 
 // Colour i of a lent list. No public call: the caller sees to the length.
+#[tactic(auto, unfolding(crate::specs::Oklab::oklab_at))]
 pub fn oklab_at(list: &[f32], i: usize) -> Oklab
     requires { 3 * i + 2 < length list.now }
     ensures { result ≡ oklab_at list.now i }

@@ -13,7 +13,7 @@ use Rattle.color.proofs.Distances.{Ranged}
 use Rattle.conversion.specs.Linear.{linear_of}
 use Rattle.conversion.specs.Root.{root_of}
 use Rattle.conversion.specs.Nearest.{nearest}
-use Rattle.conversion.specs.Oklab.{AtMost, l_of, m_of, s_of, lightness_of, a_of, b_of, millionths_of, oklab_of, to_oklab}
+use Rattle.conversion.specs.Oklab.{AtMost, IsLinear, l_of, m_of, s_of, lightness_of, a_of, b_of, millionths_of, oklab_of, to_oklab}
 use Rattle.conversion.proofs.LinearLaws.{small}
 use Rattle.conversion.proofs.RootLaws.{million, doubled}
 use Rattle.conversion.proofs.NearestLaws.{nearest_size}
@@ -29,12 +29,18 @@ a_parts l m s = ap (nearest 10000000000) (moved (pos (19779984951 * l)) (pos (24
 pub linear_small : (i j k : ℕ) → i < 256 → j < 256 → k < 256 → AtMost 100000000 (linear_of i) (linear_of j) (linear_of k)
 linear_small i j k p q h = record { first = small i p; second = small j q; third = small k h }
 
+pub linear_bound : {x y z i j k : ℕ} → x ≡ linear_of i → y ≡ linear_of j → z ≡ linear_of k → i < 256 → j < 256 → k < 256 → AtMost 100000000 x y z
+linear_bound {i = i} {j} {k} e f g p q h = rw (e, f, g) (linear_small i j k p q h)
+
 module _ (r g b : ℕ) (h : AtMost 100000000 r g b) where
   pub sums_small : AtMost 1000000000000000000 (l_of r g b) (m_of r g b) (s_of r g b)
   sums_small = omega arith
 
   pub roots_small : AtMost 1000000 (root_of (l_of r g b)) (root_of (m_of r g b)) (root_of (s_of r g b))
   roots_small = let k = sums_small in record { first = million _ k.first; second = million _ k.second; third = million _ k.third }
+
+  pub roots_bound : {x y z : ℕ} → x ≡ root_of (l_of r g b) → y ≡ root_of (m_of r g b) → z ≡ root_of (s_of r g b) → AtMost 1000000 x y z
+  roots_bound e f g = rw (e, f, g) roots_small
 
   s_of_m : root_of (s_of r g b) ≤ 2 * root_of (m_of r g b) + 1
   s_of_m = doubled (s_of r g b) (m_of r g b) sums_small.third sums_small.second (omega arith)
@@ -70,7 +76,6 @@ ranged c R G B =
     }
 
 -- from linear values: what the code answers is the colour's
-pub converted : (c : NormalizedColor) (r g b : ℕ) (o : Oklab) → r ≡ linear_of c.0.r → g ≡ linear_of c.0.g → b ≡ linear_of c.0.b
-    → o ≡ oklab_of (millionths_of r g b) → o ≡ to_oklab c
+pub converted : (c : NormalizedColor) (r g b : ℕ) (o : Oklab) → IsLinear c r g b → o ≡ oklab_of (millionths_of r g b) → o ≡ to_oklab c
 unfolding to_oklab
-converted c r g b o R G B e = e ∙ (λ i. oklab_of (millionths_of (R i) (G i) (B i)))
+converted c r g b o h e = e ∙ (λ i. oklab_of (millionths_of (h.red i) (h.green i) (h.blue i)))

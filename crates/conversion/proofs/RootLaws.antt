@@ -1,7 +1,7 @@
 -- The cube root: `root_of n` is the whole number nearest to the cube root of n, there is one alone, and the root is never halfway between two. What
 -- the code compares in place of cubes of halves decides the same. What callers use is `million`, the root's bound, and `doubled`, how it grows.
 -- Assumes nothing.
-use mathlib.Core.Path.{◌≡◌, sym, subst}
+use mathlib.Core.Path.{◌≡◌, subst}
 use mathlib.Core.Logic.{◌⊎◌, inl, inr}
 use mathlib.Core.Bool.{Bool, true, false, cond, not}
 use Prim.Native.Nat.{ℕ, zero, suc, ◌+◌, ◌-◌, ◌*◌, ◌^◌, ◌≤◌, ◌<◌}
@@ -9,7 +9,7 @@ use native.Mathlib.Nat.{le_of_lt, eq-or-lt_of_le, lt_of_not-le, mul-le-mul, mul_
 use native.Mathlib.Omega.{arith}
 use lib.Dec.{T, ltb, ltb→lt, lt→ltb, nltb→le}
 use Rattle.floats.proofs.At.{same_test}
-use Rattle.conversion.specs.Root.{cube, Root, too_high, too_low, digits, root_of}
+use Rattle.conversion.specs.Root.{cube, Root, too_high, digits, root_of}
 
 -- ---- cubes
 cube_mono : {a b : ℕ} → a ≤ b → cube a ≤ cube b
@@ -72,21 +72,8 @@ pub is_root : (n c : ℕ) → n ≤ 1000000000000000000 → cube (2 * c - 1) ≤
 is_root n c h p q = only_one n c (root_of n) (record { low = p; high = q }) (root_is n h)
 
 -- ---- what the code compares
--- up to 2^20 nothing is too large
-pub square_fits : (c : ℕ) → c ≤ 1048576 → c * c ≤ 1099511627776
-square_fits c h = mul-le-mul h h
-
-pub cube-fits : (c : ℕ) → c ≤ 1048576 → c * (4 * (c * c) + 3) ≤ 1048576 * 4398046511107
-cube-fits c h = let k : 4 * (c * c) + 3 ≤ 4398046511107 = omega (arith, square_fits c h) in mul-le-mul h k
-
 same_order : (a b c d : ℕ) → (a < b → c < d) → (c < d → a < b) → ltb a b ≡ ltb c d
 same_order a b c d f g = same_test (ltb a b) (ltb c d) (λ t. lt→ltb c d (f (ltb→lt a b t))) (λ t. lt→ltb a b (g (ltb→lt c d t)))
-
-pub too_low_test : (n c : ℕ) → ltb (c * (4 * (c * c) + 3) + 6 * (c * c)) (4 * n) ≡ too_low n c
-too_low_test n c =
-    same_order (c * (4 * (c * c) + 3) + 6 * (c * c)) (4 * n) (cube (2 * c + 1)) (8 * n)
-    (λ h. omega (arith, odd_cube c))
-    (λ h. omega (arith, odd_cube c))
 
 pub too_high_test : (n c : ℕ) → ltb (4 * n + 6 * (c * c)) (c * (4 * (c * c) + 3)) ≡ too_high n c
 too_high_test n zero = same_order (4 * n + 0) 0 (8 * n) 0 (λ h. omega arith) (λ h. omega arith)
@@ -102,14 +89,6 @@ too_high_test n (suc c) =
     odd : cube (2 * c + 1) + 2 * (6 * (suc c * suc c)) + 1 ≡ 2 * (suc c * (4 * (suc c * suc c) + 3))
     odd = simp (suc-mul, mul-suc, mul-add, add-mul, mul_assoc, mul_left_comm) (omega arith)
 
--- 0 is not too high
-pub above_zero : (n c : ℕ) → 8 * n < cube (2 * c - 1) → 0 < c
-above_zero n c h = let z = cube_below 0 (2 * c - 1) (8 * n) (omega arith) h in omega arith
-
--- one more than what is too low is not too high
-pub one_more : (n c : ℕ) → cube (2 * c + 1) < 8 * n → cube (2 * (c + 1) - 1) ≤ 8 * n
-one_more n c h = subst (λ (x : ℕ). cube x ≤ 8 * n) (sym (next_half c)) (le_of_lt h)
-
 -- ---- what callers use
 -- where n is at most 10^18, what is not too high is at most a million
 pub at_most_million : (n c : ℕ) → n ≤ 1000000000000000000 → cube (2 * c - 1) ≤ 8 * n → c ≤ 1000000
@@ -117,9 +96,6 @@ at_most_million n c h k = let z = cube_below (2 * c - 1) 2000001 (8 * n) k (omeg
 
 pub million : (n : ℕ) → n ≤ 1000000000000000000 → root_of n ≤ 1000000
 million n h = at_most_million n (root_of n) h (root_is n h).low
-
-pub root_small : (n c : ℕ) → c ≡ root_of n → n ≤ 1000000000000000000 → c ≤ 1000000
-root_small n c e h = rw e (million n h)
 
 cube_double : (b : ℕ) → cube (2 * b) ≡ 8 * cube b
 cube_double b = simp (mul_assoc, mul_left_comm) (omega arith)

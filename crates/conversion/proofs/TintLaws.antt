@@ -1,7 +1,7 @@
 -- No grey has a tint: its a and b are 0, by one computed test over the 256 greys. Assumes nothing.
 use mathlib.Core.Path.{◌≡◌, refl, ap, ◌∙◌}
 use Prim.Native.Nat.{ℕ, ◌<◌}
-use lib.IntN.{ℤ, pos}
+use lib.IntN.{pos}
 use lib.Ieee.{round}
 use Rattle.lists.proofs.Computed.{agree}
 use Rattle.floats.specs.Over.{over, millionths}

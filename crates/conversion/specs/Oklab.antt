@@ -14,6 +14,12 @@ pub record AtMost (n x y z : ℕ) : Type 0 where
   pub second : y ≤ n
   pub third : z ≤ n
 
+-- r, g, b are the linear values of a colour
+pub record IsLinear (c : NormalizedColor) (r g b : ℕ) : Type 0 where
+  pub red : r ≡ linear_of c.0.r
+  pub green : g ≡ linear_of c.0.g
+  pub blue : b ≡ linear_of c.0.b
+
 -- l, m, s from linear r, g, b
 abbrev pub l_of : ℕ → ℕ → ℕ → ℕ
 l_of r g b = 4122214708 * r + 5363325363 * g + 514459929 * b

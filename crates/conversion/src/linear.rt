@@ -1,13 +1,25 @@
 // The linear value of each byte, scaled by 10^8 (IEC 61966-2-1).
-ghost use Rattle.std.specs.Prelude.{◌≡◌, ◌+◌, ◌*◌, ◌<◌, T, length};
+ghost use Rattle.std.specs.Prelude.{◌≡◌, ◌+◌, ◌*◌, ◌<◌, T};
 ghost use Rattle.conversion.specs.Linear.{values, linear_of, curve_of, in_rests};
+ghost use Rattle.conversion.specs.Oklab.{AtMost, IsLinear};
 
-// The linear values of a colour's red, green and blue.
+use color::NormalizedColor;
+
+// Linear red, green and blue.
 #[derive(Clone, Copy)]
-pub(crate) struct Three {
+pub(crate) struct LinearColor {
     pub(crate) r: u64,
     pub(crate) g: u64,
     pub(crate) b: u64,
+    pub ghost small: { AtMost 100000000 r g b },
+}
+
+// The table, in 32 bits a value: half the stack of a call that has it. A constant array is written out anew wherever it is
+// named, so a caller makes the table once and lends it.
+#[derive(Drop)]
+pub struct LinearTable {
+    pub entries: [u32; 256],
+    pub ghost table: { entries ≡ values },
 }
 
 const LINEAR: [u64; 256] = [
@@ -53,30 +65,44 @@ fn narrowed(all: &[u64; 256]) -> [u32; 256]
     requires { all.now ≡ values }
     ensures { result ≡ values }
 {
-    let mut t = [0u32; 256];
-    let mut k: usize = 0;
-    while k < 256 {
-        t[k] = narrow(all, k);
-        k += 1;
+    let mut entries = [0; 256];
+    for k in 0..256 {
+        entries[k] = narrow(all, k);
     }
-    t
+    entries
 }
 
-// The table, in 32 bits a value: half the stack of a call that has it. A constant array is written out anew wherever it is
-// named, so a caller makes the table once and lends it.
-pub fn linear_table() -> [u32; 256]
-    ensures { result ≡ values }
+pub fn linear_table() -> LinearTable
+    ensures { result.entries ≡ values }
 {
     let all = LINEAR;
-    narrowed(&all)
+    LinearTable {
+        entries: narrowed(&all),
+    }
 }
 
-// The linear value of byte k, by the table that is lent. No public call: the caller sees to the table.
-pub(crate) fn linear_at(t: &[u32; 256], k: u8) -> u64
-    requires { t.now ≡ values }
-    ensures { result ≡ linear_of k }
-{
-    t[k as usize] as u64
+// What tells the linear value of each byte, and so those of a colour.
+pub(crate) trait LinearValues {
+    // The linear value of byte k.
+    fn at(&self, k: u8) -> u64
+        ensures { result ≡ linear_of k };
+
+    fn color(&self, c: NormalizedColor) -> LinearColor
+        ensures { IsLinear c result.r result.g result.b }
+    {
+        LinearColor {
+            r: self.at(c.0.r),
+            g: self.at(c.0.g),
+            b: self.at(c.0.b),
+        }
+    }
+}
+
+impl LinearValues for LinearTable {
+    #[tactic(auto, using(crate::proofs::LinearLaws::entry))]
+    fn at(&self, k: u8) -> u64 {
+        self.entries[k as usize] as u64
+    }
 }
 
 // A curve in whole numbers close below the linear values: what it leaves of a value, the rest, takes 16 bits. No polynomial of
@@ -88,41 +114,28 @@ fn curve(k: u8) -> u64
     x * (1210000000 + x * (43500000 + x * (345000 - x * (800 - x)))) / 65536
 }
 
-// The rest that two bytes hold, the lower first.
-fn rest_of(a: u8, b: u8) -> u64
-    ensures { result ≡ a + 256 * b }
-{
-    a as u64 + 256 * b as u64
+// The rests of all bytes, two bytes each, the lower first.
+#[derive(Clone, Copy)]
+struct Rests<'a> {
+    bytes: &'a [u8; 512],
+    ghost of_values: { T (in_rests bytes.now 0 values) },
 }
 
-// The linear value of byte k, by the rests that are lent, two bytes each.
-fn linear_in(rests: &[u8; 512], k: u8) -> u64
-    requires { (length rests.now ≡ 512) × T (in_rests rests.now 0 values) }
-    ensures { result ≡ linear_of k }
-{
-    let i = 2 * k as usize;
-    curve(k) + rest_of(rests[i], rests[i + 1])
-}
-
-// The linear values of three bytes, by the rests that are lent.
-fn three_in(rests: &[u8; 512], r: u8, g: u8, b: u8) -> Three
-    requires { (length rests.now ≡ 512) × T (in_rests rests.now 0 values) }
-    ensures { result ≡ (record { r = linear_of r; g = linear_of g; b = linear_of b }) }
-{
-    Three {
-        r: linear_in(rests, r),
-        g: linear_in(rests, g),
-        b: linear_in(rests, b),
+impl<'a> LinearValues for Rests<'a> {
+    fn at(&self, k: u8) -> u64 {
+        let i = 2 * k as usize;
+        curve(k) + u16::from_le_bytes([self.bytes[i], self.bytes[i + 1]]) as u64
     }
 }
 
-// The linear values of three bytes alone. Constants are written out in the frame wherever they are named, so this names the
+// The linear values of a colour alone. Constants are written out in the frame wherever they are named, so this names the
 // rests and not the table: 512 bytes of the frame, half of what four bytes to a value take, in 32 stores of 16 bytes.
-pub(crate) fn linear_three(r: u8, g: u8, b: u8) -> Three
-    ensures { result ≡ (record { r = linear_of r; g = linear_of g; b = linear_of b }) }
-{
-    three_in(
-        b"\x00\x00\xd5\x2b\x5a\x52\x72\x73\xfd\x8e\xdb\xa4\xf1\xb4\x1f\xbf\x47\xc3\x4b\xc1\x11\xb9\x7f\xad\xc1\xa2\x8e\x98\xe4\x8e\xc3\x85\
+impl From<NormalizedColor> for LinearColor {
+    ghost from_gives = { λ c x. IsLinear c x.r x.g x.b };
+
+    fn from(c: NormalizedColor) -> LinearColor {
+        let rests = Rests {
+            bytes: b"\x00\x00\xd5\x2b\x5a\x52\x72\x73\xfd\x8e\xdb\xa4\xf1\xb4\x1f\xbf\x47\xc3\x4b\xc1\x11\xb9\x7f\xad\xc1\xa2\x8e\x98\xe4\x8e\xc3\x85\
 \x2a\x7d\x17\x75\x89\x6d\x7f\x66\xf6\x5f\xec\x59\x5f\x54\x4d\x4f\xb2\x4a\x8d\x46\xd9\x42\x95\x3f\xbf\x3c\x51\x3a\x49\x38\xa5\x36\
 \x61\x35\x79\x34\xec\x33\xb5\x33\xcf\x33\x3b\x34\xf2\x34\xf3\x35\x3a\x37\xc3\x38\x8c\x3a\x90\x3c\xce\x3e\x42\x41\xe8\x43\xbf\x46\
 \xc1\x49\xed\x4c\x40\x50\xb7\x53\x4e\x57\x03\x5b\xd4\x5e\xbd\x62\xbc\x66\xce\x6a\xf1\x6e\x22\x73\x5f\x77\xa6\x7b\xf3\x7f\x47\x84\
@@ -138,8 +151,7 @@ pub(crate) fn linear_three(r: u8, g: u8, b: u8) -> Three
 \x7d\xd2\xb2\xd4\xdf\xd6\x01\xd9\x12\xdb\x12\xdd\xfe\xde\xd1\xe0\x89\xe2\x23\xe4\x9b\xe5\xed\xe6\x16\xe8\x12\xe9\xdc\xe9\x71\xea\
 \xcc\xea\xe9\xea\xc3\xea\x57\xea\x9e\xe9\x94\xe8\x34\xe7\x78\xe5\x5c\xe3\xd9\xe0\xea\xdd\x8a\xda\xb1\xd6\x5b\xd2\x81\xcd\x1b\xc8\
 \x25\xc2\x96\xbb\x68\xb4\x93\xac\x12\xa4\xdb\x9a\xe9\x90\x31\x86\xad\x7a\x55\x6e\x20\x61\x06\x53\xfe\x43\xff\x33\x01\x23\xf9\x10",
-        r,
-        g,
-        b,
-    )
+        };
+        rests.color(c)
+    }
 }

@@ -9,7 +9,8 @@ use native.Mathlib.Nat.{le_of_lt}
 use lib.Dec.{T, eqb}
 use lib.IntN.{ℤ, pos, ◌+ℤ◌, ◌-ℤ◌, ◌*ℤ◌, +ℤ_idl, +ℤ_idr, +ℤ-neg_ℤ_cancel, -ℤ-+ℤ_cancel, zero-*ℤ, *ℤ-zero, *ℤ_comm}
 use Rattle.diffusion.specs.Biased.{biased_of}
-use Rattle.patterns.specs.Kernel.{Target, Place, pixel, outside, landing, total, later}
+use Rattle.patterns.specs.declared.Target.{Target}
+use Rattle.patterns.specs.Kernel.{Place, pixel, outside, landing, total, later}
 use Rattle.diffusion.specs.Sum.{sum}
 use Rattle.diffusion.specs.Diffusion.{Channel, is_at, weight_to, residual_of, cell, residual, loss_of, loss}
 use Rattle.diffusion.specs.Account.{over_dithered, sources, choices, excess, lost, sent, sent_to, is_skipped, is_outside, to_skipped, dropped, held}

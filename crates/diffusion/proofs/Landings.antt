@@ -7,7 +7,8 @@ use native.Mathlib.Omega.{arith}
 use lib.Arith.{digits_lt, digits_div, digits_mod}
 use lib.Dec.{T, ltb, ltb→lt}
 use lib.IntN.{ℤ, pos, negsuc, nat_abs, ◌+ℤ◌}
-use Rattle.patterns.specs.Kernel.{Target, pixel, outside, place, landing, positive, comes_later}
+use Rattle.patterns.specs.declared.Target.{Target}
+use Rattle.patterns.specs.Kernel.{pixel, outside, place, landing, positive, comes_later}
 use Rattle.floats.proofs.Int.{cancel}
 
 -- what is known of a column z and a row y that are the pixel i

@@ -1,4 +1,4 @@
--- What the machine makes of sources, cells, residuals and sends, with 16 and 32 bits: each sum and product is the whole number that it stands for,
+-- What the machine makes of rounded numbers, residuals and sends, with 16 and 32 bits: each sum and product is the whole number that it stands for,
 -- and one that is within 4080 either way has room in 16 bits. Assumes nothing.
 use mathlib.Core.Path.{◌≡◌, sym, ap, ◌∙◌, subst}
 use Prim.Native.Nat.{ℕ, ◌+◌, ◌*◌, ◌/◌, ◌≤◌, ◌<◌}
@@ -8,7 +8,7 @@ use borrow.Author.Tests.{ne_eqb}
 use mathlib.Core.Bool.{Bool, true, false, cond}
 use mathlib.Core.List.{List}
 use lib.Dec.{lit≤, lit<}
-use lib.IntN.{ℤ, pos, negsuc, neg_ℤ, nat_abs, ◌+ℤ◌, ◌-ℤ◌, ◌*ℤ◌, +ℤ_idl, +ℤ_idr}
+use lib.IntN.{ℤ, pos, neg_ℤ, nat_abs, ◌+ℤ◌, ◌-ℤ◌, ◌*ℤ◌, +ℤ_idl, +ℤ_idr}
 use lib.Signed.{lt_z}
 use lib.ListN.{length, get_or}
 use mir.Syntax.{w16, w32}
@@ -17,21 +17,20 @@ use mir.ValLaws.{to_z-of_z, to_z_pos}
 use Rattle.floats.proofs.Int.{sum_size, neg_size, product_bound, difference_bound}
 use Rattle.diffusion.specs.Biased.{halves}
 use Rattle.diffusion.specs.Scatter.{more}
-use Rattle.diffusion.specs.Sends.{in_order, Residuals, RoomIn}
+use Rattle.diffusion.specs.Sends.{RoomIn}
 use Rattle.diffusion.proofs.Scatter.{more_at}
-use Rattle.diffusion.proofs.Rounding.{size_below, halves_below, halves_above}
+use Rattle.diffusion.proofs.Rounding.{halves_below, halves_above}
 use Rattle.diffusion.proofs.Spots.{mag_size}
 
 -- what 16 and 32 bits hold
 fits_16 : (z : ℤ) → nat_abs z ≤ 4080 → SFits w16 z
 fits_16 z h = record { sfits = omega (arith, mag_size z) }
 
+pub small_fits : (z : ℤ) → nat_abs z ≤ 255 → SFits w16 z
+small_fits z h = fits_16 z (omega arith)
+
 fits_32 : (z : ℤ) → nat_abs z ≤ 65536 → SFits w32 z
 fits_32 z h = record { sfits = omega (arith, mag_size z) }
-
-size_16 : (z : ℤ) → SFits w16 z → nat_abs z ≤ 32768
-size_16 (pos n) f = omega (arith, f.sfits)
-size_16 (negsuc n) f = omega (arith, f.sfits)
 
 byte_16 : (n : ℕ) → n < 256 → to_z w16 n ≡ pos n
 byte_16 n h = to_z_pos w16 n (lt_of_lt_of_le h (lit≤ tt))
@@ -48,24 +47,12 @@ module _ (z : ℤ) (Z : nat_abs z ≤ 65536) where
   few : part ≤ 65536
   few = omega arith
 
-  pub part_fits : SFits w32 (pos part)
-  part_fits = fits_32 (pos part) few
-
   part_back : to_z w32 part ≡ pos part
   part_back = to_z_pos w32 part (lt_of_le_of_lt few (lit< tt))
 
   module _ (below : lt_z (to_z w32 (of_z w32 z)) (pos 0) ≡ true) where
     is_below : lt_z z (pos 0) ≡ true
     is_below = ap (λ (y : ℤ). lt_z y (pos 0)) (sym number) ∙ below
-
-    negative : pos 0 -ℤ to_z w32 (of_z w32 z) ≡ pos (nat_abs z)
-    negative = ap (λ (y : ℤ). pos 0 -ℤ y) number ∙ size_below z is_below
-
-    pub negative_fits : SFits w32 (pos 0 -ℤ to_z w32 (of_z w32 z))
-    negative_fits = rw negative (fits_32 (pos (nat_abs z)) Z)
-
-    pub size_is : to_z w32 (of_z w32 (pos 0 -ℤ to_z w32 (of_z w32 z))) ≡ pos (nat_abs z)
-    size_is = to_z-of_z w32 _ negative_fits ∙ negative
 
     rounded : pos 0 -ℤ to_z w32 part ≡ halves z
     rounded = ap (λ (y : ℤ). pos 0 -ℤ y) part_back ∙ +ℤ_idl (neg_ℤ (pos part)) ∙ halves_below z is_below
@@ -79,32 +66,6 @@ module _ (z : ℤ) (Z : nat_abs z ≤ 65536) where
 
   pub above_is : lt_z (to_z w32 (of_z w32 z)) (pos 0) ≡ false → to_z w32 part ≡ halves z
   above_is above = part_back ∙ halves_above z (ap (λ (y : ℤ). lt_z y (pos 0)) (sym number) ∙ above)
-
--- ---- sixteen times a source, plus a cell
-module _ (s : ℕ) (z : ℤ) (S : s < 256) (Z : SFits w16 z) where
-  times : to_z w32 s *ℤ pos 16 ≡ pos (s * 16)
-  times = ap (λ (x : ℤ). x *ℤ pos 16) (to_z_pos w32 s (lt_of_lt_of_le S (lit≤ tt)))
-
-  pub times_fits : SFits w32 (to_z w32 s *ℤ pos 16)
-  times_fits = rw times (fits_32 (pos (s * 16)) (omega arith))
-
-  cell_back : to_z w16 (of_z w16 z) ≡ z
-  cell_back = to_z-of_z w16 z Z
-
-  pub cell_fits : SFits w32 (to_z w16 (of_z w16 z))
-  cell_fits = rw cell_back (fits_32 z (omega (arith, size_16 z Z)))
-
-  both : to_z w32 (of_z w32 (to_z w32 s *ℤ pos 16)) +ℤ to_z w32 (of_z w32 (to_z w16 (of_z w16 z))) ≡ pos (s * 16) +ℤ z
-  both = λ q. (to_z-of_z w32 (to_z w32 s *ℤ pos 16) times_fits ∙ times) q +ℤ (to_z-of_z w32 (to_z w16 (of_z w16 z)) cell_fits ∙ cell_back) q
-
-  pub both_small : nat_abs (pos (s * 16) +ℤ z) ≤ 65536
-  both_small = omega (arith, sum_size (pos (s * 16)) z, size_16 z Z)
-
-  pub both_fit : SFits w32 (to_z w32 (of_z w32 (to_z w32 s *ℤ pos 16)) +ℤ to_z w32 (of_z w32 (to_z w16 (of_z w16 z))))
-  both_fit = rw both (fits_32 (pos (s * 16) +ℤ z) both_small)
-
-  pub both_is : to_z w32 (of_z w32 (to_z w32 (of_z w32 (to_z w32 s *ℤ pos 16)) +ℤ to_z w32 (of_z w32 (to_z w16 (of_z w16 z))))) ≡ pos (s * 16) +ℤ z
-  both_is = to_z-of_z w32 _ both_fit ∙ both
 
 -- ---- a residual
 module _ (b c : ℕ) (B : b < 256) (C : c < 256) where
@@ -149,12 +110,3 @@ pub room_kept : (cells : List ℤ) (at other w : ℕ) (z : ℤ) → at < length 
 room_kept cells at other w z l n r =
     subst (λ (v : ℤ). nat_abs v + 255 * w ≤ 4080)
     (sym (more_at cells other z at l ∙ ap (λ (b : Bool). get_or cells at (pos 0) +ℤ cond b z (pos 0)) (ne_eqb other at n) ∙ +ℤ_idr (get_or cells at (pos 0)))) r
-
--- ---- three residuals, as a call reads them
-module _ (r g b : ℤ) (R : SFits w16 r) (G : SFits w16 g) (B : SFits w16 b) where
-  pub residuals_passed : Residuals r g b → Residuals (to_z w16 (of_z w16 r)) (to_z w16 (of_z w16 g)) (to_z w16 (of_z w16 b))
-  residuals_passed h =
-      record { red = rw (to_z-of_z w16 r R) h.red; green = rw (to_z-of_z w16 g G) h.green; blue = rw (to_z-of_z w16 b B) h.blue }
-
-  pub in_order_lem : in_order (to_z w16 (of_z w16 r)) (to_z w16 (of_z w16 g)) (to_z w16 (of_z w16 b)) ≡ in_order r g b
-  in_order_lem = λ q. in_order (to_z-of_z w16 r R q) (to_z-of_z w16 g G q) (to_z-of_z w16 b B q)

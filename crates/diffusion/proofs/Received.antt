@@ -9,7 +9,8 @@ use native.Mathlib.Omega.{arith}
 use lib.Dec.{T}
 use lib.IntN.{ℤ, pos, nat_abs, ◌+ℤ◌, ◌-ℤ◌, ◌*ℤ◌, +ℤ_idr, *ℤ-zero}
 use Rattle.floats.proofs.Int.{sum_size, product_size, difference_bound}
-use Rattle.patterns.specs.Kernel.{Target, total, later}
+use Rattle.patterns.specs.declared.Target.{Target}
+use Rattle.patterns.specs.Kernel.{total, later}
 use Rattle.diffusion.specs.Biased.{biased_of}
 use Rattle.diffusion.specs.Sum.{sum}
 use Rattle.diffusion.specs.Diffusion.{Channel, weight_to, residual_of, received, cell, residual, Alike}

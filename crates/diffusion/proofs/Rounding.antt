@@ -1,12 +1,13 @@
--- Rounding sixteenths to a byte: how a negative number is rounded and how another one, what the tests on the way to a byte tell, and that a biased
--- byte is a byte. Assumes nothing.
+-- Rounding sixteenths to a byte: how a negative number is rounded and how another one, that clamping clips, and that a biased byte is a byte. Assumes nothing.
 use mathlib.Core.Path.{◌≡◌, refl, sym, subst}
-use Prim.Native.Nat.{ℕ, suc, ◌+◌, ◌*◌, ◌/◌, ◌≤◌, ◌<◌, zero-le}
+use Prim.Native.Nat.{ℕ, ◌+◌, ◌*◌, ◌/◌, ◌≤◌, ◌<◌, zero-le}
 use native.Mathlib.Omega.{arith}
-use mathlib.Core.Bool.{Bool, true, false, not, true≢false}
-use lib.Dec.{T, ltb→lt, nltb→le}
-use lib.IntN.{ℤ, pos, negsuc, neg_ℤ, nat_abs, ◌+ℤ◌, ◌-ℤ◌, +ℤ_idl}
+use mathlib.Core.Bool.{true, false, true≢false}
+use lib.Dec.{T, ltb→lt}
+use lib.IntN.{ℤ, pos, negsuc, neg_ℤ, nat_abs, ◌+ℤ◌}
 use lib.Signed.{lt_z, non_neg}
+use Rattle.std.specs.Int.{int_max, int_min}
+use Rattle.std.proofs.lemmas.Int.{ints, clamps}
 use Rattle.diffusion.specs.Biased.{halves, clip, biased_of}
 
 pub not_below_zero : (z : ℤ) → lt_z z (pos 0) ≡ false → T (non_neg z)
@@ -20,10 +21,6 @@ none_below n t = none n (ltb→lt n 0 (subst T (sym t) tt))
     none n h = omega arith
 
 -- ---- rounding
-pub size_below : (z : ℤ) → lt_z z (pos 0) ≡ true → pos 0 -ℤ z ≡ pos (nat_abs z)
-size_below (pos n) t = absurd (none_below n t)
-size_below (negsuc n) t = +ℤ_idl (pos (suc n))
-
 pub halves_below : (z : ℤ) → lt_z z (pos 0) ≡ true → neg_ℤ (pos ((nat_abs z + 8) / 16)) ≡ halves z
 unfolding halves
 halves_below (pos n) t = absurd (none_below n t)
@@ -35,24 +32,10 @@ halves_above (pos n) t = refl
 halves_above (negsuc n) t = absurd (true≢false t)
 
 -- ---- clipping
-pub clip_below : (y : ℤ) → lt_z y (pos 0) ≡ true → 0 ≡ clip y
+pub clamped : (z : ℤ) → int_max (pos 0) (int_min z (pos 255)) ≡ pos (clip z)
 unfolding clip
-clip_below (pos n) t = absurd (none_below n t)
-clip_below (negsuc n) t = refl
-
-pub clip_above : (y : ℤ) → lt_z (pos 255) y ≡ true → 255 ≡ clip y
-unfolding clip
-clip_above (pos n) t =
-    let h : 255 < n = ltb→lt 255 n (subst T (sym t) tt) in
-    omega arith
-clip_above (negsuc n) t = absurd (true≢false (sym t))
-
-pub clip_within : (y : ℤ) → lt_z y (pos 0) ≡ false → lt_z (pos 255) y ≡ false → (nat_abs y ≤ 255) × (nat_abs y ≡ clip y)
-unfolding clip
-clip_within (pos n) l h =
-    let few : n ≤ 255 = nltb→le 255 n (subst (λ (b : Bool). T (not b)) (sym h) tt) in
-    (few, omega arith)
-clip_within (negsuc n) l h = absurd (true≢false l)
+clamped (pos n) = omega (arith, ints, clamps)
+clamped (negsuc n) = refl
 
 clip_byte : (z : ℤ) → clip z ≤ 255
 unfolding clip

@@ -13,7 +13,8 @@ use lib.ListN.{length, get_or, set, replicate, length-set, length-replicate, get
 use lib.Seq.{get_or-set_same, get_or-set_other, set-get_or}
 use Rattle.lists.proofs.GatherLaws.{gather_only}
 use Rattle.floats.proofs.Int.{times_add}
-use Rattle.patterns.specs.Kernel.{Target, Place, pixel, outside, landing, total, later}
+use Rattle.patterns.specs.declared.Target.{Target}
+use Rattle.patterns.specs.Kernel.{Place, pixel, outside, landing, total, later}
 use Rattle.diffusion.specs.Diffusion.{Picture, channel, is_at, weight_to, residual_of, received, cell}
 use Rattle.diffusion.specs.Scatter.{more, send, sends, left_over, scatter, Holds, cells_at, cell_buffer}
 use Rattle.diffusion.proofs.Channels.{by_channel, by_pixel}

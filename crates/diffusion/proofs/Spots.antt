@@ -2,7 +2,7 @@
 use mathlib.Core.Path.{◌≡◌, refl, sym, ◌∙◌, subst}
 use mathlib.Core.Bool.{Bool, true, false, cond, ◌&&◌}
 use Prim.Native.Nat.{ℕ, ◌+◌, ◌*◌, ◌≤◌, ◌<◌}
-use native.Mathlib.Nat.{le_refl, lt_of_lt_of_le, mul-le-mul}
+use native.Mathlib.Nat.{le_refl, lt_of_lt_of_le}
 use native.Mathlib.Omega.{arith}
 use lib.Arith.{digits_div, digits_mod}
 use lib.Dec.{T, ltb, ltb→lt, lt→ltb, lit≤}
@@ -12,7 +12,8 @@ use mir.Syntax.{w32}
 use mir.Val.{to_z, of_z, SFits}
 use mir.ValLaws.{to_z-of_z, to_z_pos}
 use Rattle.floats.proofs.Int.{sum_size}
-use Rattle.patterns.specs.Kernel.{Target, pixel, outside, place, landing}
+use Rattle.patterns.specs.declared.Target.{Target}
+use Rattle.patterns.specs.Kernel.{pixel, outside, place, landing}
 
 -- the landing of the pixel in column x and row y
 pub landing_at : (w h x y : ℕ) (t : Target) → x < w → landing w h (y * w + x) t ≡ place w h (pos x +ℤ t.dx) (y + t.dy)
@@ -28,21 +29,21 @@ mag_size (negsuc n) = omega arith
 abbrev pub column : ℕ → ℤ → ℤ
 column x d = to_z w32 (of_z w32 (to_z w32 x +ℤ to_z w32 (of_z w32 d)))
 
-module _ (x : ℕ) (d : ℤ) (X : x < 4096) (D : nat_abs d ≤ 16) (F : SFits w32 d) where
+module _ (x : ℕ) (d : ℤ) (X : x < 4096) (D : nat_abs d ≤ 16) where
+  fits : SFits w32 d
+  fits = record { sfits = omega (arith, mag_size d) }
+
   machine : to_z w32 x +ℤ to_z w32 (of_z w32 d) ≡ pos x +ℤ d
-  machine = λ q. to_z_pos w32 x (lt_of_lt_of_le X (lit≤ tt)) q +ℤ to_z-of_z w32 d F q
+  machine = λ q. to_z_pos w32 x (lt_of_lt_of_le X (lit≤ tt)) q +ℤ to_z-of_z w32 d fits q
 
   size : nat_abs (pos x +ℤ d) < 8192
   size = omega (arith, sum_size (pos x) d)
 
-  pub moved_fits : SFits w32 (to_z w32 x +ℤ to_z w32 (of_z w32 d))
+  moved_fits : SFits w32 (to_z w32 x +ℤ to_z w32 (of_z w32 d))
   moved_fits = rw machine (record { sfits = omega (arith, mag_size (pos x +ℤ d), size) })
 
   pub moved : column x d ≡ pos x +ℤ d
   moved = to_z-of_z w32 (to_z w32 x +ℤ to_z w32 (of_z w32 d)) moved_fits ∙ machine
-
-  pub moved_size : nat_abs (column x d) < 8192
-  moved_size = rw moved size
 
 -- ---- where the tests lead
 pub left_of_lem : (w h : ℕ) (z : ℤ) (y : ℕ) → lt_z z (pos 0) ≡ true → outside ≡ place w h z y
@@ -87,9 +88,3 @@ within w h (pos x) y t l m = go (ltb x w) (ltb y h) (lt→ltb x w l) (lt→ltb y
     go true false p q = absurd q
     go false b p q = absurd p
 within w h (negsuc x) y t l m = absurd t
-
--- a row and a column, and a row's number times the width, are small
-pub row_size : (w h y : ℕ) → w ≤ 4096 → h ≤ 4096 → y < h → y * w ≤ 16777216
-row_size w h y W H l =
-    let Y : y ≤ 4096 = omega arith in
-    mul-le-mul Y W

@@ -11,7 +11,8 @@ use lib.Dec.{T}
 use lib.IntN.{ℤ, pos, nat_abs, ◌-ℤ◌}
 use lib.ListN.{length, get_or, replicate}
 use Rattle.color.specs.declared.NormalizedColor.{NormalizedColor}
-use Rattle.patterns.specs.Kernel.{Target, total, later}
+use Rattle.patterns.specs.declared.Target.{Target}
+use Rattle.patterns.specs.Kernel.{total, later}
 use Rattle.diffusion.specs.Biased.{biased_of, biased_color}
 use Rattle.diffusion.specs.Diffusion.{Picture, channel, residual_of, cell, biased}
 use Rattle.diffusion.specs.Scatter.{sends, left_over, scatter, cell_buffer}

@@ -7,7 +7,7 @@ use Prim.Native.Nat.{ℕ, zero, suc, ◌<◌}
 use native.Mathlib.Nat.{not-suc-le-zero}
 use native.Mathlib.Omega.{arith}
 use lib.Dec.{lit<}
-use Rattle.patterns.specs.Kernel.{Target}
+use Rattle.patterns.specs.declared.Target.{Target}
 use Rattle.diffusion.specs.Biased.{biased_of}
 use Rattle.diffusion.specs.Diffusion.{Channel, Picture, channel, biased, Alike, Follows}
 use Rattle.diffusion.proofs.Received.{fewer, cell_same}

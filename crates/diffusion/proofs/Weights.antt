@@ -10,7 +10,8 @@ use borrow.Author.Tests.{eq-eqb}
 use lib.Dec.{T, eqb→eq}
 use lib.ListN.{length, get_or, take}
 use lib.Ieee.Fits.{and_l, and_r}
-use Rattle.patterns.specs.Kernel.{Target, Place, pixel, outside, landing, total, comes_later, later}
+use Rattle.patterns.specs.declared.Target.{Target}
+use Rattle.patterns.specs.Kernel.{Place, pixel, outside, landing, total, comes_later, later}
 use Rattle.diffusion.specs.Diffusion.{is_at, weight_to}
 use Rattle.diffusion.proofs.Sum.{sumℕ, sumℕ_add, sumℕ_zero}
 use Rattle.diffusion.proofs.Landings.{landing_later, landing_once}

@@ -4,7 +4,8 @@
 -- pixels, over the dropped sends, and over Atkinson's held-back weight of 4"; "'chosen' is the normalised choice, and a pixel is dithered if it
 -- isn't skipped".
 use Rattle.std.specs.Prelude.{ℕ, ◌*◌, Bool, true, false, cond, not, List, [], ◌∷◌, ℤ, pos, ◌+ℤ◌, ◌-ℤ◌, ◌*ℤ◌}
-use Rattle.patterns.specs.Kernel.{Target, Place, pixel, outside, landing}
+use Rattle.patterns.specs.declared.Target.{Target}
+use Rattle.patterns.specs.Kernel.{Place, pixel, outside, landing}
 use Rattle.diffusion.specs.Sum.{sum}
 use Rattle.diffusion.specs.Diffusion.{Channel, residual_of, loss_of}
 

@@ -3,7 +3,8 @@
 -- chosen normalised", "A skipped pixel .. passes nothing on", "Cells start at 0"; and "Loss at a dithered pixel .. is 16·source + cell - 16·biased".
 -- Pixels are numbered row by row from 0.
 use Rattle.std.specs.Prelude.{◌≡◌, ℕ, zero, suc, ◌+◌, ◌*◌, ◌<◌, Bool, true, false, cond, List, [], ◌∷◌, eqb, ℤ, pos, ◌+ℤ◌, ◌-ℤ◌, ◌*ℤ◌}
-use Rattle.patterns.specs.Kernel.{Target, Place, pixel, outside, landing}
+use Rattle.patterns.specs.declared.Target.{Target}
+use Rattle.patterns.specs.Kernel.{Place, pixel, outside, landing}
 use Rattle.diffusion.specs.Biased.{biased_of}
 
 -- one channel of a picture: which pixels are dithered, the source, and the normalised choice

@@ -5,7 +5,8 @@
 -- three a pixel".
 use Rattle.std.specs.Prelude.{◌≡◌, ℕ, zero, suc, ◌+◌, ◌*◌, ◌<◌, List, [], ◌∷◌, ℤ, pos, ◌+ℤ◌, ◌*ℤ◌, length, get_or, set, replicate}
 use Rattle.lists.specs.Gather.{gather}
-use Rattle.patterns.specs.Kernel.{Target, Place, pixel, outside, landing}
+use Rattle.patterns.specs.declared.Target.{Target}
+use Rattle.patterns.specs.Kernel.{Place, pixel, outside, landing}
 use Rattle.diffusion.specs.Diffusion.{Picture, channel, residual_of, received, cell}
 
 -- z more in the cell that stands at a place of the buffer

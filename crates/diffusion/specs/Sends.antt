@@ -1,23 +1,17 @@
 -- What the functions of `diffusion` need and promise of one pixel's sends. Definitions only.
 -- Written from document 01, "Diffusion runs row by row, left to right" ("exact sixteenths within ±255", which are 4,080 of them), and "Bounds and
 -- replies" for the size of a picture.
-use Rattle.std.specs.Prelude.{ℕ, zero, suc, ◌+◌, ◌*◌, ◌≤◌, ◌<◌, List, ℤ, pos, nat_abs, ◌-ℤ◌, get_or}
+use Rattle.std.specs.Prelude.{ℕ, zero, suc, ◌+◌, ◌*◌, ◌≤◌, ◌<◌, List, Option, Some, None, ℤ, pos, nat_abs, ◌-ℤ◌, get_or}
 use Rattle.color.specs.declared.Rgba8888.{Rgba8888}
-use Rattle.patterns.specs.Kernel.{Target, Place, pixel, outside}
-use Rattle.diffusion.specs.declared.Landing.{Landing}
-use Rattle.diffusion.specs.declared.Landing.TheVariants.{Pixel, Outside}
+use Rattle.patterns.specs.declared.Target.{Target}
+use Rattle.patterns.specs.Kernel.{Place, pixel, outside}
+use Rattle.diffusion.specs.declared.residual.Residual.{Residual}
 use Rattle.diffusion.specs.Diffusion.{weight_to}
 
-abbrev pub place_of : Landing → Place
-place_of (Pixel i) = pixel i
-place_of Outside = outside
-
--- column x and row y are a pixel of a picture of width w and height h
-pub record Spot (w h x y : ℕ) : Type 0 where
-  pub column : x < w
-  pub row : y < h
-  pub wide : w ≤ 4096
-  pub high : h ≤ 4096
+-- the place of a pixel's number, or of none
+abbrev pub place_of : Option ℕ → Place
+place_of (Some i) = pixel i
+place_of None = outside
 
 -- a colour's bytes by the channel's number: red, green, blue
 abbrev pub byte_in : ℕ → Rgba8888 → ℕ
@@ -30,16 +24,10 @@ abbrev pub residuals_of : Rgba8888 → Rgba8888 → ℕ → ℤ
 residuals_of biased chosen a = pos (byte_in a biased) -ℤ pos (byte_in a chosen)
 
 -- the residuals of three channels, by the channel's number
-abbrev pub in_order : (r g b : ℤ) → ℕ → ℤ
-in_order r g b zero = r
-in_order r g b (suc zero) = g
-in_order r g b (suc (suc a)) = b
-
--- each is what is left between two bytes: from -255 to 255
-pub record Residuals (r g b : ℤ) : Type 0 where
-  pub red : nat_abs r ≤ 255
-  pub green : nat_abs g ≤ 255
-  pub blue : nat_abs b ≤ 255
+abbrev pub in_order : Residual → ℕ → ℤ
+in_order r zero = r.r
+in_order r (suc zero) = r.g
+in_order r (suc (suc a)) = r.b
 
 -- a cell that stands at a place of the buffer has room for w sixteenths of any residual: it stays within 4,080 either way
 abbrev pub RoomIn : List ℤ → ℕ → ℕ → Type 0

@@ -10,8 +10,7 @@ use Rattle.color.specs.Color.{same_reduced, reduced_at}
 use Rattle.reducing.specs.Reduce.{least_alpha}
 use Rattle.picture.specs.Pixels.{is_seen, seen_from}
 use Rattle.picture.proofs.PixelLaws.{seen_from_lem}
-use Rattle.judging.specs.declared.Judged.{Judged}
-use Rattle.judging.specs.declared.Judged.TheVariants.{Fits, Over}
+use Rattle.std.specs.Prelude.{Option, Some, None}
 use Rattle.lists.specs.Different.{Many}
 use Rattle.judging.specs.Tiles as judging
 use Rattle.judging.specs.Tiles.{counts_in, verdict_of, judged_of, JudgedAs}
@@ -21,28 +20,28 @@ use Rattle.dither.specs.Mode.{Commission, size, reduced_of, chosen, tiles, tile_
 
 module _ (q : Commission) where
   -- what judging answers of the chosen colours
-  abbrev pub verdict : Judged
+  abbrev pub verdict : Option ℕ
   verdict =
       let s = q.settings in
       judged_of (is_seen (reduced_of q)) (chosen q) s.width s.height s.tile_width s.tile_height s.limit
 
-  verdict_is : verdict ≡ cond (over_budget q) (Over (tile_over q)) Fits
+  verdict_is : verdict ≡ cond (over_budget q) (Some (tile_over q)) None
   unfolding judged_of verdict_of over_budget tile_over
   verdict_is = refl
 
   -- ---- from what judging answered
-  module _ {v : Judged} (e : v ≡ verdict) where
-    pub judged_over : (t : ℕ) → v ≡ Over t → (over_budget q ≡ true) × (t ≡ tile_over q)
+  module _ {v : Option ℕ} (e : v ≡ verdict) where
+    pub judged_over : (t : ℕ) → v ≡ Some t → (over_budget q ≡ true) × (t ≡ tile_over q)
     judged_over t w = go (over_budget q) refl (sym w ∙ e ∙ verdict_is)
       where
-        go : (b : Bool) → over_budget q ≡ b → Over t ≡ cond b (Over (tile_over q)) Fits → (over_budget q ≡ true) × (t ≡ tile_over q)
+        go : (b : Bool) → over_budget q ≡ b → Some t ≡ cond b (Some (tile_over q)) None → (over_budget q ≡ true) × (t ≡ tile_over q)
         go true b f = let n : t ≡ tile_over q = cc in (b, n)
         go false b f = absurd (let z : ◌≡◌ {A = ℕ} 0 1 = cc in omega arith)
 
-    pub judged_fits : v ≡ Fits → over_budget q ≡ false
+    pub judged_fits : v ≡ None → over_budget q ≡ false
     judged_fits w = go (over_budget q) refl (sym w ∙ e ∙ verdict_is)
       where
-        go : (b : Bool) → over_budget q ≡ b → Fits ≡ cond b (Over (tile_over q)) Fits → over_budget q ≡ false
+        go : (b : Bool) → over_budget q ≡ b → None ≡ cond b (Some (tile_over q)) None → over_budget q ≡ false
         go true b f = absurd (let z : ◌≡◌ {A = ℕ} 0 1 = cc in omega arith)
         go false b f = b
 
@@ -79,15 +78,15 @@ module _ (q : Commission) where
       let s = q.settings in
       laws.over_if (is_seen (reduced_of q)) (chosen q) s.width s.height s.tile_width s.tile_height s.limit t m
 
-  abbrev As : Judged → Type 0
+  abbrev As : Option ℕ → Type 0
   As v =
       let s = q.settings in
       JudgedAs (is_seen (reduced_of q)) (chosen q) s.width s.height s.tile_width s.tile_height s.limit v
 
-  said : (b : Bool) → over_budget q ≡ b → As (cond b (Over (tile_over q)) Fits)
+  said : (b : Bool) → over_budget q ≡ b → As (cond b (Some (tile_over q)) None)
   said b e =
       let s = q.settings in
-      subst As (verdict_is ∙ ap (λ (x : Bool). cond x (Over (tile_over q)) Fits) e)
+      subst As (verdict_is ∙ ap (λ (x : Bool). cond x (Some (tile_over q)) None) e)
       (judged_is (is_seen (reduced_of q)) (chosen q) s.width s.height s.tile_width s.tile_height s.limit)
 
   -- the tile that is named is one of the picture's, is over its limit, and no earlier one is

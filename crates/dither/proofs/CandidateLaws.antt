@@ -9,7 +9,7 @@ use borrow.Author.Tests.{ltb-false}
 use lib.ListN.{length, get_or, take, replicate}
 use lib.Ieee.{Float}
 use Rattle.lists.specs.Order.{In}
-use Rattle.lists.proofs.GatherLaws.{gather-length, filled-length, filled_front}
+use Rattle.lists.proofs.GatherLaws.{filled-length, filled_front}
 use Rattle.color.specs.declared.ReducedColor.{ReducedColor}
 use Rattle.color.specs.Color.{bytes_of}
 use Rattle.reducing.specs.declared.Reducing.{Reducing}
@@ -17,11 +17,9 @@ use Rattle.picture.specs.Pixels.{reduced_by}
 use Rattle.picture.proofs.PixelLaws.{reduced_solid}
 use Rattle.conversion.specs.Lists.{oklab_floats}
 use Rattle.conversion.proofs.ListLaws.{list_front}
-use Rattle.drawing.specs.declared.ColorZero.{ColorZero}
+use Rattle.std.specs.Prelude.{Option, Some, None}
 use Rattle.drawing.specs.Lent.{is_skipped}
 use Rattle.drawing.proofs.FinishedLaws.{drawn_seen}
-use Rattle.candidates.specs.declared.Collected.{Collected}
-use Rattle.candidates.specs.declared.Collected.TheVariants.{Count, TooMany}
 use Rattle.candidates.specs.Candidates.{candidates_of}
 use Rattle.candidates.specs.Rooms.{candidate_at, places_with, oklab_with, too_many, Collects}
 use Rattle.candidates.proofs.CandidateLaws.{candidates_is}
@@ -29,29 +27,29 @@ use Rattle.dither.specs.Mode.{Commission, candidate_list, candidate_bytes}
 use Rattle.dither.specs.Steps.{Roomed}
 
 -- ---- the answer of the collecting
-module _ {cs : List ReducedColor} {scale was now : List ℕ} {oklab oklab' : List Float} {r : Collected} (p : Collects cs scale was oklab r now oklab') where
-  pub collected : (count : ℕ) → r ≡ Count count
+module _ {cs : List ReducedColor} {scale was now : List ℕ} {oklab oklab' : List Float} {r : Option ℕ} (p : Collects cs scale was oklab r now oklab') where
+  pub collected : (count : ℕ) → r ≡ Some count
       → (too_many cs was ≡ false) × (count ≡ length cs) × (now ≡ places_with cs was) × (oklab' ≡ oklab_with scale cs oklab)
   collected count q = go (too_many cs was) refl (sym q ∙ p.answer) p.bytes p.floats
     where
-      go : (t : Bool) → too_many cs was ≡ t → Count count ≡ cond t TooMany (Count (length cs)) → now ≡ cond t (replicate (length was) 0) (places_with cs was)
+      go : (t : Bool) → too_many cs was ≡ t → Some count ≡ cond t None (Some (length cs)) → now ≡ cond t (replicate (length was) 0) (places_with cs was)
           → oklab' ≡ cond t oklab (oklab_with scale cs oklab)
           → (too_many cs was ≡ false) × (count ≡ length cs) × (now ≡ places_with cs was) × (oklab' ≡ oklab_with scale cs oklab)
       go true t e b f = absurd (let z : ◌≡◌ {A = ℕ} 0 1 = cc in omega arith)
       go false t e b f = let c : count ≡ length cs = cc in (t, c, b, f)
 
-  pub uncollected : r ≡ TooMany → (too_many cs was ≡ true) × (now ≡ replicate (length was) 0) × (oklab' ≡ oklab)
+  pub uncollected : r ≡ None → (too_many cs was ≡ true) × (now ≡ replicate (length was) 0) × (oklab' ≡ oklab)
   uncollected q = go (too_many cs was) refl (sym q ∙ p.answer) p.bytes p.floats
     where
-      go : (t : Bool) → too_many cs was ≡ t → TooMany ≡ cond t TooMany (Count (length cs)) → now ≡ cond t (replicate (length was) 0) (places_with cs was)
+      go : (t : Bool) → too_many cs was ≡ t → None ≡ cond t None (Some (length cs)) → now ≡ cond t (replicate (length was) 0) (places_with cs was)
           → oklab' ≡ cond t oklab (oklab_with scale cs oklab) → (too_many cs was ≡ true) × (now ≡ replicate (length was) 0) × (oklab' ≡ oklab)
       go true t e b f = (t, b, f)
       go false t e b f = absurd (let z : ◌≡◌ {A = ℕ} 0 1 = cc in omega arith)
 
 -- ---- the fronts of the rooms
 module _ (q : Commission) where
-  pub roomed : {was now : List ℕ} {oklab oklab' : List Float} {r : Collected} {count : ℕ}
-      → Collects (candidate_list q) q.scale was oklab r now oklab' → r ≡ Count count
+  pub roomed : {was now : List ℕ} {oklab oklab' : List Float} {r : Option ℕ} {count : ℕ}
+      → Collects (candidate_list q) q.scale was oklab r now oklab' → r ≡ Some count
       → length oklab ≡ 3 * (length was / 4) → Roomed q now oklab' count
   unfolding candidate_bytes too_many
   roomed {was} {now} {oklab} {oklab'} {count = count} p e long =
@@ -70,18 +68,13 @@ module _ (q : Commission) where
         converted = (λ t. take (3 * c.1 t) (c.3 t)) ∙ list_front q.scale (candidate_at cs) (length cs) oklab;
       }
 
--- ---- the candidates that are lent to the drawing
-pub bytes_long : (cs : List ReducedColor) → length (candidate_bytes cs) ≡ 4 * length cs
-unfolding candidate_bytes
-bytes_long cs = gather-length 4 (λ i. bytes_of (candidate_at cs i).0) (λ i. refl) (length cs)
-
 -- ---- a pixel that is not skipped is seen, and so its colour is a candidate
 some_in : {A : Type 0} (x : A) (xs : List A) → In x xs → 0 < length xs
 some_in x [] i = absurd i
 some_in x (y ∷ ys) i = omega arith
 
 -- where the reduction table holds bytes
-pub some_candidate : (zero : ColorZero) (by : Reducing) (reduction pixels : List ℕ) (n : ℕ) → ((v : ℕ) → get_or reduction v 0 < 256) → (i : ℕ) → i < n
+pub some_candidate : (zero : Option ReducedColor) (by : Reducing) (reduction pixels : List ℕ) (n : ℕ) → ((v : ℕ) → get_or reduction v 0 < 256) → (i : ℕ) → i < n
     → is_skipped zero (reduced_by by reduction pixels i) ≡ false → 0 < length (candidates_of (reduced_by by reduction pixels) n)
 some_candidate zero by reduction pixels n bytes i h s =
     let reduced = reduced_by by reduction pixels in

@@ -18,11 +18,12 @@ use Rattle.patterns.specs.Kinds.{is_kind, cells_needed}
 use Rattle.candidates.specs.Calls.{rooms_wrong}
 use Rattle.candidates.proofs.CallLaws.{roomy}
 use Rattle.dither.specs.declared.Settings.{Settings}
-use Rattle.dither.specs.declared.Dithered.{Dithered}
+use Rattle.std.specs.Prelude.{Result}
+use Rattle.dither.specs.declared.DitherError.{DitherError}
 use Rattle.dither.specs.Mode.{Commission, Buffers, size, lengths_of, bounds_wrong, lengths_wrong, budget_wrong, checks, replies, number_of, DitheredToMode}
 use Rattle.dither.specs.Steps.{Fitting}
 
-pub number_is : {q : Commission} {was then : Buffers} {r : Dithered} → DitheredToMode q was r then → FirstReply (replies q was) (number_of r)
+pub number_is : {q : Commission} {was then : Buffers} {r : Result ℕ DitherError} → DitheredToMode q was r then → FirstReply (replies q was) (number_of r)
 number_is p = answers_first _ _ _ tt p.answer
 
 -- the picture's size, where its bounds are not wrong

@@ -14,12 +14,13 @@ use Rattle.drawing.proofs.DrawnLaws.{drawn_skipped}
 use Rattle.drawing.proofs.CandidateLaws.{list_fit, drawn_candidate}
 use Rattle.drawing.proofs.FinishedLaws.{pixel_here}
 use Rattle.candidates.specs.Rooms.{candidate_at}
-use Rattle.dither.specs.declared.Dithered.{Dithered}
+use Rattle.std.specs.Prelude.{Result}
+use Rattle.dither.specs.declared.DitherError.{DitherError}
 use Rattle.dither.specs.Mode.{Commission, basis_of, Buffers, size, reduced_of, candidate_list, dithering, chosen, pixels_of, number_of, out_after, DitheredToMode}
 use Rattle.dither.proofs.CandidateLaws.{some_candidate}
 
 -- ---- what stands at pixel i
-module _ {q : Commission} {was then : Buffers} {r : Dithered} (p : DitheredToMode q was r then) (accepted : number_of r ≡ 0) where
+module _ {q : Commission} {was then : Buffers} {r : Result ℕ DitherError} (p : DitheredToMode q was r then) (accepted : number_of r ≡ 0) where
   color_list : then.out ≡ pixels_of q
   unfolding out_after
   color_list = p.picture ∙ ap (out_after q was.out) accepted

@@ -4,10 +4,11 @@
 -- replies"; and from document 02, Ask 9: "15 for kinds 5 and 6 in every call that takes a kind, directly after 1"; Ask 11: "signed 16-bit counts of
 -- sixteenths, three a pixel", "3 measures the new length"; Ask 5: "Each call names its reduction", "1 for any other pairing", "3 covers the new buffer". The candidates, the drawn picture and the judged tiles are defined in `candidates`,
 -- `drawing` and `judging`.
-use Rattle.std.specs.Prelude.{ℕ, ◌*◌, ◌≡◌, Bool, cond, not, ◌||◌, List, [], ◌∷◌, ◌++◌, eqb, ltb, ℤ, pos, length, replicate, Float}
+use Rattle.std.specs.Prelude.{ℕ, ◌*◌, ◌≡◌, Bool, cond, not, ◌||◌, List, [], ◌∷◌, ◌++◌, eqb, ltb, ℤ, pos, length, replicate, Float, Result, Ok, Err}
 use Rattle.lists.specs.Gather.{gather}
 use Rattle.replies.specs.Replies.{Reply, ◌if◌, after}
 use Rattle.replies.specs.Answers.{Answers}
+use Rattle.replies.specs.Refusals.{number, refusal}
 use Rattle.color.specs.declared.ReducedColor.{ReducedColor}
 use Rattle.color.specs.Color.{bytes_of}
 use Rattle.reducing.specs.declared.Reducing.{Reducing}
@@ -27,8 +28,8 @@ use Rattle.candidates.specs.Calls.{rooms_wrong}
 use Rattle.judging.specs.Tiles.{tile_count, first_over}
 use Rattle.dither.specs.declared.Settings.{Settings}
 use Rattle.dither.specs.declared.Lengths.{Lengths}
-use Rattle.dither.specs.declared.Dithered.{Dithered}
-use Rattle.dither.specs.declared.Dithered.TheVariants.{Count, Over, Refused}
+use Rattle.dither.specs.declared.DitherError.{DitherError}
+use Rattle.dither.specs.declared.DitherError.TheVariants.{TileOver, Refused}
 
 -- what the caller asks for, and lends to be read
 pub record Commission : Type 0 where
@@ -41,6 +42,10 @@ pub record Commission : Type 0 where
 abbrev pub commission : Settings → (reduction scale pixels opaque : List ℕ) → Commission
 commission settings reduction scale pixels opaque =
     record { settings = settings; reduction = reduction; scale = scale; pixels = pixels; opaque = opaque }
+
+-- the same of what is lent to the drawing
+abbrev pub commission_by : Settings → Lent → Commission
+commission_by settings l = commission settings l.reduction l.scale l.pixels l.opaque
 
 -- what the caller lends to be written: places for the candidates, the floats beside them, the pixels and the error cells
 pub record Buffers : Type 0 where
@@ -85,11 +90,14 @@ ditherer_of s bracket_width =
 abbrev pub lent_of : Commission → List ℕ → List Float → ℕ → Lent
 lent_of q colors oklab count = lent q.settings.reducing q.reduction q.scale q.pixels q.opaque colors oklab count
 
+-- the same with the picture's candidates
+abbrev pub lent_to : Commission → Lent
+lent_to q = lent_of q (candidate_bytes (candidate_list q)) (candidate_oklab q.scale (candidate_list q)) (length (candidate_list q))
+
 -- the picture that is drawn: with the settings' colour zero, and "max is the tile limit"
 abbrev pub dithering : Commission → Drawing
 dithering q =
-    drawing_of (ditherer_of q.settings (width_of q.settings.shift q.settings.limit)) q.settings.zero
-    (lent_of q (candidate_bytes (candidate_list q)) (candidate_oklab q.scale (candidate_list q)) (length (candidate_list q)))
+    drawing_of (ditherer_of q.settings (width_of q.settings.shift q.settings.limit)) q.settings.zero (lent_to q)
 
 -- pixel i's chosen reduced colour
 abbrev pub chosen : Commission → ℕ → ReducedColor
@@ -157,15 +165,20 @@ replies q b = checks q.settings (lengths_of q b) ++ 7 if too_many (candidate_lis
 
 -- ---- the promise
 
--- document 01's number of an answer
-abbrev pub number_of : Dithered → ℕ
-number_of (Count n) = 0
-number_of (Over tile n) = 8
-number_of (Refused n) = n
+-- document 01's number of an error, and of an answer
+abbrev pub error_number : DitherError → ℕ
+error_number (TileOver tile n) = 8
+error_number (Refused e) = number e
+
+abbrev pub number_of : Result ℕ DitherError → ℕ
+number_of (Ok n) = 0
+number_of (Err e) = error_number e
 
 -- what is answered with a number: how many candidates there are; with 8 the first tile that is over its limit, too
-unfoldable pub answer_of : Commission → ℕ → Dithered
-answer_of q n = cond (eqb n 0) (Count (length (candidate_list q))) (cond (eqb n 8) (Over (tile_over q) (length (candidate_list q))) (Refused n))
+unfoldable pub answer_of : Commission → ℕ → Result ℕ DitherError
+answer_of q n =
+    cond (eqb n 0) (Ok (length (candidate_list q)))
+    (Err (cond (eqb n 8) (TileOver (tile_over q) (length (candidate_list q))) (Refused (refusal n))))
 
 -- what a buffer holds after number n: the result after 0, this after 8, and else what it held
 abbrev pub leaves : {A : Type 0} → ℕ → (result over was : A) → A
@@ -192,7 +205,7 @@ abbrev pub buffers_after : Commission → Buffers → ℕ → Buffers
 buffers_after q was n = buffers (places_after q was.places n) (oklab_after q was.oklab n) (out_after q was.out n) (cells_left q was.cells n)
 
 -- what `dither_to_mode` answers and leaves: r, and the buffers after its number, which held `was`
-pub record DitheredToMode (q : Commission) (was : Buffers) (r : Dithered) (then : Buffers) : Type 0 where
+pub record DitheredToMode (q : Commission) (was : Buffers) (r : Result ℕ DitherError) (then : Buffers) : Type 0 where
   pub answer : Answers number_of (replies q was) (answer_of q) r
   pub candidate_places : then.places ≡ places_after q was.places (number_of r)
   pub candidate_oklab : then.oklab ≡ oklab_after q was.oklab (number_of r)

@@ -1,12 +1,12 @@
 -- What the steps of `dither_to_mode` need and promise. Definitions only.
 -- Written from document 01, "Choosing colours" and "Bounds and replies".
-use Rattle.std.specs.Prelude.{ℕ, ◌+◌, ◌*◌, ◌≤◌, ◌≡◌, true, cond, List, ℤ, pos, length, take, replicate, Float}
+use Rattle.std.specs.Prelude.{ℕ, ◌+◌, ◌*◌, ◌≤◌, ◌≡◌, true, cond, List, ℤ, pos, length, take, replicate, Float, Result, Ok, Err}
 use Rattle.picture.specs.Bounds.{opaque_needed}
 use Rattle.patterns.specs.Kinds.{is_diffusion}
 use Rattle.mixing.specs.Widths.{is_shift}
 use Rattle.drawing.specs.Lent.{cells_after}
-use Rattle.dither.specs.declared.Dithered.{Dithered}
-use Rattle.dither.specs.declared.Dithered.TheVariants.{Count, Over}
+use Rattle.dither.specs.declared.DitherError.{DitherError}
+use Rattle.dither.specs.declared.DitherError.TheVariants.{TileOver}
 use Rattle.dither.specs.Mode.{Commission, size, candidate_list, candidate_bytes, candidate_oklab, dithering, tile_over, over_budget, pixels_of}
 
 -- what a picture has that no check refuses
@@ -38,7 +38,7 @@ pub record Roomed (q : Commission) (places : List ℕ) (oklab : List Float) (cou
   pub converted : take (3 * count) oklab ≡ candidate_oklab q.scale (candidate_list q)
 
 -- the answer, the output pixels and the cells of a picture whose candidates have places
-pub record Completes (q : Commission) (out₀ : List ℕ) (cells₀ : List ℤ) (r : Dithered) (out : List ℕ) (cells : List ℤ) : Type 0 where
-  pub answer : r ≡ cond (over_budget q) (Over (tile_over q) (length (candidate_list q))) (Count (length (candidate_list q)))
+pub record Completes (q : Commission) (out₀ : List ℕ) (cells₀ : List ℤ) (r : Result ℕ DitherError) (out : List ℕ) (cells : List ℤ) : Type 0 where
+  pub answer : r ≡ cond (over_budget q) (Err (TileOver (tile_over q) (length (candidate_list q)))) (Ok (length (candidate_list q)))
   pub picture : out ≡ cond (over_budget q) (replicate (length out₀) 0) (pixels_of q)
   pub cell_buffer : cells ≡ cond (over_budget q) (replicate (length cells₀) (pos 0)) (cells_after (dithering q) cells₀)

@@ -5,19 +5,24 @@
 
 ghost use Rattle.std.specs.Prelude.{◌≡◌, ◌*◌, ◌≤◌, length, replicate, pos};
 ghost use Rattle.replies.specs.Replies.{first_reply};
-ghost use Rattle.drawing.specs.Lent.{reduced_bytes, cells_after};
-ghost use Rattle.drawing.specs.Turns.{Linear};
-ghost use Rattle.dither.specs.Mode.{commission, buffers, dithering, bounds_wrong, lengths_wrong, budget_wrong, checks, DitheredToMode};
-ghost use Rattle.dither.specs.Steps.{Fitting, Roomed, Completes};
+ghost use Rattle.replies.specs.Refusals.{number_of};
+ghost use Rattle.drawing.specs.Lent.{lent_by, reduced_bytes, cells_after};
+ghost use Rattle.dither.specs.Mode.{commission, commission_by, lent_to, buffers, dithering, bounds_wrong, lengths_wrong, budget_wrong, checks, DitheredToMode};
+ghost use Rattle.dither.specs.Mode.{error_number, candidate_list};
+ghost use Rattle.dither.specs.declared.DitherError.TheVariants.{Refused};
+ghost use Rattle.dither.specs.Steps.{Fitting, Completes};
 
-use candidates::Collected;
-use drawing::{ColorZero, Ditherer};
-use judging::Judged;
+use color::ReducedColor;
+use conversion::linear::linear_table;
+use drawing::{Ditherer, Lent};
+use judging::Tiling;
 use reducing::Reducing;
+use replies::Refusal;
+use std::fmt;
 
 // What is asked of a picture: the kind of dithering, the mode's shift and how it reduces, the picture's size and its origin in
 // the source picture, the tiles' sides, how many colours a tile may have, and colour zero.
-#[derive(Clone, Copy)]
+#[derive(Clone, Copy, Debug, PartialEq, Eq, Hash)]
 pub struct Settings {
     pub kind: u32,
     pub shift: u32,
@@ -29,20 +34,48 @@ pub struct Settings {
     pub tile_width: u32,
     pub tile_height: u32,
     pub limit: u32,
-    pub zero: ColorZero,
+    pub zero: Option<ReducedColor>,
 }
 
-// What `dither_to_mode` answers: how many candidates there are; these too where a tile is over its limit, with the first
-// such tile; or the number of the refusal.
-#[derive(Clone, Copy)]
-pub enum Dithered {
-    Count(u32),
-    Over { tile: u32, count: u32 },
-    Refused(u8),
+// Why a picture is not dithered to a mode: the first tile that is over its limit, with how many candidates there are; or a
+// refusal of document 01's table. Neither has the other's number.
+#[derive(Clone, Copy, Debug, PartialEq, Eq, Hash)]
+pub enum DitherError {
+    TileOver { tile: u32, count: u32 },
+    Refused(Refusal),
+}
+
+impl DitherError {
+    // The number in the table.
+    pub fn number(self) -> u8
+        ensures { result ≡ error_number self }
+    {
+        match self {
+            DitherError::TileOver { tile: _, count: _ } => 8,
+            DitherError::Refused(refusal) => refusal.number(),
+        }
+    }
+}
+
+impl From<Refusal> for DitherError {
+    ghost from_gives = { λ refusal error. error ≡ Refused refusal };
+
+    fn from(refusal: Refusal) -> DitherError {
+        DitherError::Refused(refusal)
+    }
+}
+
+impl fmt::Display for DitherError {
+    fn fmt<W: fmt::Write>(&self, f: &mut fmt::Formatter<W>) -> fmt::Result {
+        match self {
+            DitherError::TileOver { tile, count: _ } => write!(f, "tile {tile} is over its limit"),
+            DitherError::Refused(refusal) => write!(f, "{refusal}"),
+        }
+    }
 }
 
 // How long each lent buffer is.
-#[derive(Clone, Copy)]
+#[derive(Clone, Copy, Debug, PartialEq, Eq, Hash)]
 pub struct Lengths {
     pub reduction: usize,
     pub scale: usize,
@@ -81,53 +114,41 @@ fn budget_wrong(s: Settings) -> bool
     picture::side_wrong(s.tile_width) | (picture::side_wrong(s.tile_height) | (256 < s.limit))
 }
 
-// The number of the refusals that need no look at a pixel: 0 where there is none, else the first that applies.
-fn refusal(s: Settings, lengths: Lengths) -> u8
-    ensures { result ≡ first_reply (checks s lengths) }
+// The first refusal that applies of those that need no look at a pixel, if one does.
+// Kept beside `check` of `quantize`, which says why.
+fn check(s: Settings, lengths: Lengths) -> Result<(), Refusal>
+    ensures { number_of result ≡ first_reply (checks s lengths) }
 {
     let reducing = s.reducing;
     let mode_wrong = !patterns::is_kind(s.kind) | !reducing::is_pairing(reducing, s.shift);
     let retired = patterns::is_retired(s.kind);
     let size_wrong = bounds_wrong(s);
     if mode_wrong {
-        return 1;
+        return Err(Refusal::KindOrShift);
     }
     if retired {
-        return 15;
+        return Err(Refusal::RetiredKind);
     }
     if size_wrong {
-        return 2;
+        return Err(Refusal::Size);
     }
     let size = s.width as usize * s.height as usize;
     if lengths_wrong(reducing, s.kind, size, lengths) {
-        return 3;
+        return Err(Refusal::Length);
     }
     if budget_wrong(s) {
-        return 5;
+        return Err(Refusal::Tiles);
     }
-    0
+    Ok(())
 }
 
 // ---- choosing
 
-// Chooses every pixel's colour among the candidates at the front of the rooms, into `out` as reduced bytes. No public
-// call: the caller sees to the linear table, to all lengths and to the candidates.
-fn choose(
-    s: Settings,
-    linear: &[u32; 256],
-    reduction: &[u8],
-    scale: &[u8],
-    pixels: &[u8],
-    opaque: &[u8],
-    places: &[u8],
-    oklab: &[f32],
-    count: usize,
-    out: &mut [u8],
-    cells: &mut [i16],
-)
-    requires { let q = commission s reduction.now scale.now pixels.now opaque.now in
-        Linear linear.now × Fitting q out.old cells.old × Roomed q places.now oklab.now count }
-    ensures { let d = dithering (commission s reduction.now scale.now pixels.now opaque.now) in
+// Chooses every pixel's colour among the candidates, into `out` as reduced bytes. No public call: the caller sees to what is
+// lent and to all lengths.
+fn choose(s: Settings, lent: &Lent, out: &mut [u8], cells: &mut [i16])
+    requires { let q = commission_by s (lent_by lent.now) in Fitting q out.old cells.old × (lent_by lent.now ≡ lent_to q) }
+    ensures { let d = dithering (commission_by s (lent_by lent.now)) in
         (out.new ≡ reduced_bytes d) × (cells.new ≡ cells_after d cells.old) }
 {
     let ditherer = Ditherer {
@@ -138,26 +159,8 @@ fn choose(
         height: s.height,
         bracket_width: mixing::width_of(s.shift, s.limit as u64),
     };
-    let zero = s.zero;
-    let reducing = s.reducing;
-    let colors = &places[..4 * count];
-    let floats = &oklab[..3 * count];
     let mut no_indices = [0u8; 0];
-    ditherer.draw(
-        zero,
-        linear,
-        reducing,
-        reduction,
-        scale,
-        pixels,
-        opaque,
-        colors,
-        floats,
-        count,
-        &mut no_indices,
-        out,
-        cells,
-    );
+    ditherer.draw(s.zero, lent, &mut no_indices, out, cells);
 }
 
 // ---- the call
@@ -167,56 +170,37 @@ fn wipe(out: &mut [u8], cells: &mut [i16])
     ensures { (out.new ≡ replicate (length out.old) 0)
         × (cells.new ≡ replicate (length cells.old) (pos 0)) }
 {
-    lists::zero_bytes(out);
-    lists::zero_i16s(cells);
+    lists::fill(out, 0);
+    lists::fill(cells, 0);
 }
 
-// Dithers a picture that is accepted so far and whose candidates are collected. No public call: the caller sees to the
-// linear table, to all lengths and to the candidates.
-fn dither(
-    s: Settings,
-    linear: &[u32; 256],
-    reduction: &[u8],
-    scale: &[u8],
-    pixels: &[u8],
-    opaque: &[u8],
-    places: &[u8],
-    oklab: &[f32],
-    count: usize,
-    out: &mut [u8],
-    cells: &mut [i16],
-) -> Dithered
-    requires { let q = commission s reduction.now scale.now pixels.now opaque.now in
-        Linear linear.now × Fitting q out.old cells.old × Roomed q places.now oklab.now count × (count ≤ 65536) }
-    ensures { Completes (commission s reduction.now scale.now pixels.now opaque.now) out.old cells.old
-        result out.new cells.new }
+// Dithers a picture that is accepted so far, over what is lent with its candidates. No public call: the caller sees to all of
+// it.
+fn dither(s: Settings, lent: &Lent, out: &mut [u8], cells: &mut [i16]) -> Result<u32, DitherError>
+    requires { let q = commission_by s (lent_by lent.now) in
+        Fitting q out.old cells.old × (lent_by lent.now ≡ lent_to q) × (length (candidate_list q) ≤ 65536) }
+    ensures { Completes (commission_by s (lent_by lent.now)) out.old cells.old result out.new cells.new }
 {
-    choose(
-        s, linear, reduction, scale, pixels, opaque, places, oklab, count, out, cells,
-    );
-    let reducing = s.reducing;
-    let least = reducing::least_alpha(reducing);
-    let verdict = judging::judge(
-        out,
-        least,
-        pixels,
-        s.width,
-        s.height,
-        s.tile_width,
-        s.tile_height,
-        s.limit,
-    );
-    let counted = count as u32;
-    if let Judged::Over(tile) = verdict {
+    choose(s, lent, out, cells);
+    let pixels = lent.pixels;
+    let scale = lent.candidates.scale;
+    let least = reducing::least_alpha(s.reducing);
+    let tiling = Tiling {
+        width: s.width,
+        height: s.height,
+        tile_width: s.tile_width,
+        tile_height: s.tile_height,
+        limit: s.limit,
+    };
+    let over = judging::judge(out, least, pixels, tiling);
+    let count = lent.candidates.oklabs.count as u32;
+    if let Some(tile) = over {
         wipe(out, cells);
-        return Dithered::Over {
-            tile,
-            count: counted,
-        };
+        return Err(DitherError::TileOver { tile, count });
     }
     let size = s.width as usize * s.height as usize;
     drawing::finish(least, scale, pixels, size, out);
-    Dithered::Count(counted)
+    Ok(count)
 }
 
 // Dithers a picture to a mode's colours, and judges its tiles: the rooms get the picture's candidates, `out` each pixel's
@@ -232,7 +216,7 @@ pub fn dither_to_mode<'a>(
     oklab: &mut [f32],
     out: &mut [u8],
     cells: &mut [i16],
-) -> Dithered
+) -> Result<u32, DitherError>
     ensures { DitheredToMode (commission settings reduction.now scale.now pixels.now opaque.now)
         (buffers places.old oklab.old out.old cells.old)
         result (buffers places.new oklab.new out.new cells.new) }
@@ -247,20 +231,27 @@ pub fn dither_to_mode<'a>(
         out: out.len(),
         cells: cells.len(),
     };
-    let number = refusal(settings, lengths);
-    if number != 0 {
-        return Dithered::Refused(number);
-    }
+    check(settings, lengths)?;
+    let reduction: &[u8; 256] = reduction.try_into().unwrap();
+    let scale: &[u8; 256] = scale.try_into().unwrap();
     let size = settings.width as usize * settings.height as usize;
-    let linear = conversion::linear::linear_table();
+    let linear = linear_table();
     let reducing = settings.reducing;
     let basis = picture::basis(reducing, pixels, opaque);
-    let Collected::Count(count) = candidates::collect_candidates(
+    let collected = candidates::collect_candidates(
         &linear, reducing, reduction, scale, basis, size, places, oklab,
-    ) else {
-        return Dithered::Refused(7);
-    };
-    dither(
-        settings, &linear, reduction, scale, pixels, opaque, places, oklab, count, out, cells,
-    )
+    );
+    let count = collected.ok_or(Refusal::TooManyCandidates)?;
+    let lent = Lent::new(
+        reducing,
+        reduction,
+        scale,
+        pixels,
+        opaque,
+        &linear,
+        &places[..4 * count],
+        &oklab[..3 * count],
+        count,
+    );
+    dither(settings, &lent, out, cells)
 }

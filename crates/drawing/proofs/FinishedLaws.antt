@@ -15,8 +15,7 @@ use Rattle.color.proofs.PieceLaws.{rgba_gathered}
 use Rattle.reducing.specs.Reduce.{least_alpha}
 use Rattle.picture.specs.Pixels.{is_seen, seen_from}
 use Rattle.picture.proofs.PixelLaws.{seen_from_lem}
-use Rattle.drawing.specs.declared.ColorZero.{ColorZero}
-use Rattle.drawing.specs.declared.ColorZero.TheVariants.{Absent}
+use Rattle.std.specs.Prelude.{Option, None}
 use Rattle.drawing.specs.declared.Ditherer.{Ditherer}
 use Rattle.drawing.specs.Drawing.{Drawing, drawn}
 use Rattle.drawing.specs.Lent.{is_skipped, Lent, drawing_of, reduced_bytes}
@@ -48,7 +47,7 @@ module _ (d : Drawing) where
     pixel_seen e = here true e
 
 -- finished by what the code is lent: the pixels' own alphas say what is seen
-pub finished_lent : (t : Ditherer) (zero : ColorZero) (l : Lent) (least : ℕ) → least ≡ least_alpha l.reducing
+pub finished_lent : (t : Ditherer) (zero : Option ReducedColor) (l : Lent) (least : ℕ) → least ≡ least_alpha l.reducing
     → (chosen : List ℕ) → chosen ≡ reduced_bytes (drawing_of t zero l)
     → finished_bytes (normalize_color l.scale) (seen_from least l.pixels) (reduced_at chosen) (t.width * t.height) ≡ finished_picture (drawing_of t zero l)
 finished_lent t zero l least is chosen e =
@@ -58,10 +57,10 @@ finished_lent t zero l least is chosen e =
 
 -- ---- skipped, and seen
 module _ (reduced : ℕ → ReducedColor) (i : ℕ) where
-  pub drawn_seen : (zero : ColorZero) → is_skipped zero (reduced i) ≡ false → is_seen reduced i ≡ true
+  pub drawn_seen : (zero : Option ReducedColor) → is_skipped zero (reduced i) ≡ false → is_seen reduced i ≡ true
   unfolding is_skipped is_seen
   drawn_seen zero s = ap not (or_split (is_transparent (reduced i).0) _ s).0
 
-  pub seen_drawn : is_seen reduced i ≡ true → is_skipped Absent (reduced i) ≡ false
+  pub seen_drawn : is_seen reduced i ≡ true → is_skipped None (reduced i) ≡ false
   unfolding is_skipped is_seen
   seen_drawn e = let t : is_transparent (reduced i).0 ≡ false = not-true _ e in rw t

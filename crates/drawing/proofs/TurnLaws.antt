@@ -12,7 +12,7 @@ use Rattle.color.specs.declared.NormalizedColor.{NormalizedColor}
 use Rattle.color.specs.declared.ReducedColor.{ReducedColor}
 use Rattle.color.specs.Color.{rgba}
 use Rattle.color.specs.Tables.{normalize_color}
-use Rattle.patterns.specs.Kernel.{Target}
+use Rattle.patterns.specs.declared.Target.{Target}
 use Rattle.patterns.specs.Kinds.{is_diffusion, kernel_of}
 use Rattle.patterns.proofs.Kernels.{kernel_later, kernel_total}
 use Rattle.lookup.specs.declared.Choice.{Choice}
@@ -21,12 +21,12 @@ use Rattle.diffusion.specs.Diffusion.{Picture}
 use Rattle.diffusion.specs.Scatter.{sends, scatter, cell_buffer}
 use Rattle.diffusion.specs.Sends.{byte_in, residuals_of, Room}
 use Rattle.diffusion.proofs.Steps.{step_begin, step_length, step_room, step_biased, step_skipped, step_dithered, step_end}
-use Rattle.drawing.specs.declared.ColorZero.{ColorZero}
+use Rattle.std.specs.Prelude.{Option}
 use Rattle.drawing.specs.declared.Ditherer.{Ditherer}
 use Rattle.drawing.specs.Drawing.{Drawing, nearest_color, picture_of, biased_in, biased_at, drawn}
 use Rattle.drawing.specs.Lent.{Lent, drawing_of, cells_after}
 use Rattle.drawing.specs.Positions.{TakesAt}
-use Rattle.drawing.specs.Turns.{Diffused, cells_before}
+use Rattle.drawing.specs.Turns.{Diffused, cells_before, cells_by}
 use Rattle.drawing.proofs.DrawnLaws.{drawn_diffused}
 use Rattle.drawing.proofs.PositionLaws.{takes_dithered}
 
@@ -73,7 +73,50 @@ module _ (d : Drawing) where
   unfolding cells_after
   turn_none not_diffuses was = sym (ap (λ (b : Bool). cond b (cell_buffer k p) was) not_diffuses)
 
-module _ (t : Ditherer) (zero : ColorZero) (l : Lent) where
+-- ---- the cells before a pixel's turn, by whether the kind diffuses
+pub by_yes : (d : Drawing) (was : List ℤ) → is_diffusion d.kind ≡ true → (i : ℕ) → cells_before d i ≡ cells_by d was i
+unfolding cells_by
+by_yes d was e i = sym (ap (λ (b : Bool). cond b (cells_before d i) was) e)
+
+pub by_no : (d : Drawing) (was : List ℤ) → is_diffusion d.kind ≡ false → (i : ℕ) → was ≡ cells_by d was i
+unfolding cells_by
+by_no d was e i = sym (ap (λ (b : Bool). cond b (cells_before d i) was) e)
+
+module _ (d : Drawing) where
+  -- at the end they are what is left after the picture
+  pub by_end : (was : List ℤ) → cells_by d was (d.width * d.height) ≡ cells_after d was
+  by_end was = go (is_diffusion d.kind) refl
+    where
+      go : (b : Bool) → is_diffusion d.kind ≡ b → cells_by d was (d.width * d.height) ≡ cells_after d was
+      go true e = turn_end d e _ was (sym (by_yes d was e (d.width * d.height)))
+      go false e = sym (by_no d was e (d.width * d.height)) ∙ turn_none d e was
+
+  -- a skipped pixel leaves them
+  pub by_skipped : (i : ℕ) (cells : List ℤ) → d.skipped i ≡ true → cells ≡ cells_by d cells i → cells ≡ cells_by d cells (i + 1)
+  by_skipped i cells s is = go (is_diffusion d.kind) refl
+    where
+      go : (b : Bool) → is_diffusion d.kind ≡ b → cells ≡ cells_by d cells (i + 1)
+      go true e = turn_skipped d i cells s (is ∙ sym (by_yes d cells e i)) ∙ by_yes d cells e (i + 1)
+      go false e = by_no d cells e (i + 1)
+
+  module _ (was : List ℤ) (i : ℕ) (cells : List ℤ) (is : cells ≡ cells_by d was i) where
+    -- they are so whatever was lent
+    pub by_again : cells ≡ cells_by d cells i
+    by_again = go (is_diffusion d.kind) refl
+      where
+        go : (b : Bool) → is_diffusion d.kind ≡ b → cells ≡ cells_by d cells i
+        go true e = is ∙ sym (by_yes d was e i) ∙ by_yes d cells e i
+        go false e = by_no d cells e i
+
+    -- and those of a later turn too
+    pub by_more : (j : ℕ) (next : List ℤ) → next ≡ cells_by d cells j → next ≡ cells_by d was j
+    by_more j next step = go (is_diffusion d.kind) refl
+      where
+        go : (b : Bool) → is_diffusion d.kind ≡ b → next ≡ cells_by d was j
+        go true e = step ∙ sym (by_yes d cells e j) ∙ by_yes d was e j
+        go false e = step ∙ sym (by_no d cells e j) ∙ is ∙ sym (by_no d was e i) ∙ by_no d was e j
+
+module _ (t : Ditherer) (zero : Option ReducedColor) (l : Lent) where
   abbrev d : Drawing
   d = drawing_of t zero l
 

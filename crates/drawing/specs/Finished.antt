@@ -28,7 +28,6 @@ abbrev pub finished_picture : Drawing → List ℕ
 finished_picture d = finished_bytes d.normalize (is_seen d.reduced) (drawn d) (d.width * d.height)
 
 -- what the code needs to finish n pixels, whose reduced choices are lent
-pub record Finishable (scale pixels : List ℕ) (n : ℕ) (chosen : List ℕ) : Type 0 where
-  pub scales : length scale ≡ 256
+pub record Finishable (pixels : List ℕ) (n : ℕ) (chosen : List ℕ) : Type 0 where
   pub source : length pixels ≡ 4 * n
   pub long : length chosen ≡ 4 * n

@@ -1,7 +1,7 @@
 -- The pictures that the code draws: what the lent bytes, floats and settings say, and what the lent buffers hold afterwards. Definitions only.
 -- Written from document 01, "Which document decides", "Choosing colours" and "Bounds and replies"; and from document 02, Ask 5: "the colour to be dithered is
 -- still the original pixel".
-use Rattle.std.specs.Prelude.{ℕ, ◌+◌, ◌*◌, ◌≤◌, ◌<◌, ◌≡◌, Bool, false, cond, ◌||◌, List, ℤ, length, Float}
+use Rattle.std.specs.Prelude.{ℕ, ◌+◌, ◌*◌, ◌≤◌, ◌<◌, ◌≡◌, Bool, false, cond, ◌||◌, List, ℤ, length, Float, Option, Some, None}
 use Rattle.lists.specs.Gather.{gather}
 use Rattle.color.specs.declared.ReducedColor.{ReducedColor}
 use Rattle.color.specs.Color.{is_transparent, same_rgb, bytes_of}
@@ -10,20 +10,19 @@ use Rattle.reducing.specs.declared.Reducing.{Reducing}
 use Rattle.picture.specs.Bounds.{opaque_needed}
 use Rattle.picture.specs.Pixels.{source_at, basis, reduced_by}
 use Rattle.patterns.specs.Kinds.{is_diffusion, kernel_of}
-use Rattle.shortlist.specs.Candidates.{Candidates, scaled, RangedList}
+use Rattle.shortlist.specs.Candidates.{Candidates, scaled}
 use Rattle.diffusion.specs.Scatter.{cell_buffer}
-use Rattle.drawing.specs.declared.ColorZero.{ColorZero}
-use Rattle.drawing.specs.declared.ColorZero.TheVariants.{Absent, Is}
 use Rattle.drawing.specs.declared.Ditherer.{Ditherer}
+use Rattle.drawing.specs.declared.lent.Lent as declared
 use Rattle.drawing.specs.Drawing.{Drawing, picture_of, drawn}
 
 -- the rgb is colour zero's; its alpha plays no part
-abbrev pub is_zero : ColorZero → ReducedColor → Bool
-is_zero Absent c = false
-is_zero (Is z) c = same_rgb c z
+abbrev pub is_zero : Option ReducedColor → ReducedColor → Bool
+is_zero None c = false
+is_zero (Some z) c = same_rgb c z
 
 -- a pixel is skipped if its reduced colour is transparent or has colour zero's rgb
-unfoldable pub is_skipped : ColorZero → ReducedColor → Bool
+unfoldable pub is_skipped : Option ReducedColor → ReducedColor → Bool
 is_skipped zero c = is_transparent c.0 || is_zero zero c
 
 -- what is lent to be read: how pixels reduce, the two tables, the pixels and the opaque ones beside them, and the candidates with their Oklab colours
@@ -49,6 +48,12 @@ lent reducing reduction scale pixels opaque colors oklab count = record {
   count = count;
 }
 
+-- what the code's struct lends
+abbrev pub lent_by : declared.Lent → Lent
+lent_by l =
+    let cs = l.candidates in
+    lent l.reducing l.reduction.now cs.scale.now l.pixels.now l.opaque.now cs.colors.now cs.oklabs.oklab.now cs.oklabs.count
+
 -- the pixels' reduced colours, and the candidates
 abbrev pub reduced_lent : Lent → ℕ → ReducedColor
 reduced_lent l = reduced_by l.reducing l.reduction (basis l.reducing l.pixels l.opaque)
@@ -57,7 +62,7 @@ abbrev pub candidates_lent : Lent → Candidates
 candidates_lent l = scaled l.colors l.scale l.oklab l.count
 
 -- the picture that is drawn
-abbrev pub drawing_of : Ditherer → ColorZero → Lent → Drawing
+abbrev pub drawing_of : Ditherer → Option ReducedColor → Lent → Drawing
 drawing_of t zero l =
     record {
       width = t.width;
@@ -84,17 +89,13 @@ reduced_bytes d = gather (d.width * d.height) (pixel_bytes d)
 unfoldable pub cells_after : Drawing → List ℤ → List ℤ
 cells_after d was = cond (is_diffusion d.kind) (cell_buffer (kernel_of d.kind) (picture_of d (drawn d))) was
 
--- all that is lent fits the picture
-pub record Ready (t : Ditherer) (zero : ColorZero) (l : Lent) : Type 0 where
+-- all that is lent fits the picture; that the tables are whole, and the candidates as many as are said, the types say
+pub record Ready (t : Ditherer) (zero : Option ReducedColor) (l : Lent) : Type 0 where
   pub wide : t.width ≤ 4096
   pub high : t.height ≤ 4096
   pub few : t.width * t.height ≤ 1048576
   pub across : t.origin_x + t.width ≤ 4294967295
   pub down : t.origin_y + t.height ≤ 4294967295
-  pub reduction : length l.reduction ≡ 256
-  pub scale : length l.scale ≡ 256
   pub pixels : length l.pixels ≡ 4 * (t.width * t.height)
   pub opaque : length l.opaque ≡ opaque_needed l.reducing (t.width * t.height)
-  pub colors : 4 * l.count ≤ length l.colors
-  pub ranged : RangedList l.oklab l.count
   pub some : (i : ℕ) → i < t.width * t.height → is_skipped zero (reduced_lent l i) ≡ false → 0 < l.count

@@ -1,41 +1,27 @@
 -- What the code's steps need and promise: a choice among candidates, a pixel's place, and a diffused pixel with its cells. Definitions only.
 -- Written from document 01, "Choosing colours" and "Diffusion runs row by row, left to right".
-use Rattle.std.specs.Prelude.{ℕ, ◌+◌, ◌*◌, ◌≤◌, ◌<◌, ◌≡◌, Bool, true, false, List, ℤ, length, Float}
+use Rattle.std.specs.Prelude.{ℕ, ◌+◌, ◌*◌, ◌≤◌, ◌<◌, ◌≡◌, Bool, true, false, cond, List, ℤ, Option, Some, None}
 use Rattle.color.specs.declared.NormalizedColor.{NormalizedColor}
 use Rattle.color.specs.Tables.{normalize_color}
-use Rattle.conversion.specs.Linear.{values}
-use Rattle.patterns.specs.Kinds.{is_ordered, kernel_of}
-use Rattle.shortlist.specs.Candidates.{Candidates, RangedList}
+use Rattle.patterns.specs.Kinds.{is_ordered, is_diffusion, kernel_of}
+use Rattle.shortlist.specs.Candidates.{Candidates}
 use Rattle.lookup.specs.declared.Choice.{Choice}
 use Rattle.lookup.specs.Positions.{Takes}
+use Rattle.remembered.specs.declared.Memory.{Memory}
 use Rattle.remembered.specs.Table.{nearest_alone, TableOf}
 use Rattle.remembered.specs.Shorts.{TableAndRows}
 use Rattle.diffusion.specs.Biased.{biased_color}
 use Rattle.diffusion.specs.Scatter.{sends, scatter}
 use Rattle.diffusion.specs.Sends.{residuals_of}
 use Rattle.color.specs.declared.ReducedColor.{ReducedColor}
-use Rattle.drawing.specs.declared.ColorZero.{ColorZero}
-use Rattle.drawing.specs.declared.Kept.{Kept}
-use Rattle.drawing.specs.declared.Kept.TheVariants.{Color, None}
 use Rattle.drawing.specs.Lent.{is_zero}
 use Rattle.drawing.specs.declared.Ditherer.{Ditherer}
 use Rattle.drawing.specs.Drawing.{Drawing, nearest_color, picture_of, drawn}
 
--- the table of linear values is lent
-pub record Linear (t : List ℕ) : Type 0 where
-  pub is : t ≡ values
-
 -- what is kept by colour zero of a pixel with this reduced colour: the colour, where it has that one's rgb, and else none
-abbrev pub KeepsZero : ColorZero → ReducedColor → Kept → Type 0
-KeepsZero zero c (Color own) = (is_zero zero c ≡ true) × (own ≡ c)
+abbrev pub KeepsZero : Option ReducedColor → ReducedColor → Option ReducedColor → Type 0
+KeepsZero zero c (Some own) = (is_zero zero c ≡ true) × (own ≡ c)
 KeepsZero zero c None = is_zero zero c ≡ false
-
--- there are candidates to choose from, in rooms that hold them
-pub record Choosable (colors scale : List ℕ) (oklab : List Float) (count : ℕ) : Type 0 where
-  pub some : 0 < count
-  pub room : 4 * count ≤ length colors
-  pub whole : length scale ≡ 256
-  pub ranged : RangedList oklab count
 
 -- pixel i is one of the picture's, and its column and row, counted from the origin, are numbers of 32 bits
 pub record Inside (t : Ditherer) (i : ℕ) : Type 0 where
@@ -57,10 +43,17 @@ pub record Diffused (t : Ditherer) (cs : Candidates) (scale : List ℕ) (was : L
 unfoldable pub cells_before : Drawing → ℕ → List ℤ
 cells_before d i = scatter (kernel_of d.kind) (picture_of d (drawn d)) i
 
--- what is remembered where no error is diffused: for an ordered kind pairs and shortlists, for Off the nearest
-abbrev pub RemembersBy : Bool → Candidates → ℕ → List ℕ → Type 0
-RemembersBy true cs width memory = TableAndRows cs width memory
-RemembersBy false cs width memory = TableOf (nearest_alone cs.oklab cs.count) memory
+-- the cells before pixel i's turn: for a diffusion kind those, and otherwise what was lent
+unfoldable pub cells_by : Drawing → List ℤ → ℕ → List ℤ
+cells_by d was i = cond (is_diffusion d.kind) (cells_before d i) was
 
-abbrev pub Remembers : Ditherer → Candidates → List ℕ → Type 0
+-- what is remembered: for an ordered kind pairs and shortlists, for the others the nearest
+abbrev pub RemembersNearest : Candidates → Memory → Type 0
+RemembersNearest cs memory = TableOf (nearest_alone cs.oklab cs.count) memory
+
+abbrev pub RemembersBy : Bool → Candidates → ℕ → Memory → Type 0
+RemembersBy true cs width memory = TableAndRows cs width memory
+RemembersBy false cs width memory = RemembersNearest cs memory
+
+abbrev pub Remembers : Ditherer → Candidates → Memory → Type 0
 Remembers t cs memory = RemembersBy (is_ordered t.kind) cs t.bracket_width memory

@@ -1,22 +1,20 @@
 -- The worked examples of document 01 that are marked P: what the definitions give, and what the document says, row by row. Definitions only.
 -- Written from document 01, "Worked examples", with E5 as document 02, Ask 2, amends it. proofs/Examples has the one proof.
-use Rattle.std.specs.Prelude.{ℕ, Bool, true, false, List, [], ◌∷◌, map, ℤ, pos, negsuc, ◌*ℤ◌, get_or, Float}
+use Rattle.std.specs.Prelude.{ℕ, Bool, true, false, List, [], ◌∷◌, map, ℤ, pos, negsuc, ◌*ℤ◌, get_or, Float, Result, Ok, Err}
 use Rattle.std.specs.Float.{fin}
+use Rattle.replies.specs.Refusals.{number}
+use Rattle.replies.specs.declared.Refusal.{Refusal}
 use Rattle.color.specs.declared.NormalizedColor.{NormalizedColor}
 use Rattle.color.specs.Color.{rgba}
 use Rattle.floats.specs.Bytes.{zero_f, one_f}
 use Rattle.floats.specs.Over.{over}
-use Rattle.mixing.specs.declared.Width.{Width}
-use Rattle.mixing.specs.declared.Width.TheVariants.{Of, Refused}
 use Rattle.mixing.specs.Lerp.{lerp_of}
 use Rattle.mixing.specs.Widths.{bracket_width_of}
-use Rattle.patterns.specs.declared.Thresholded.{Thresholded}
-use Rattle.patterns.specs.declared.Thresholded.TheVariants as thresholded
 use Rattle.patterns.specs.Thresholds.{threshold_of}
 use Rattle.conversion.specs.Linear.{linear_of}
 use Rattle.conversion.specs.Oklab.{Millionths, millionths_at}
 use Rattle.patterns.specs.declared.Dither.TheVariants.{Atkinson, FloydSteinberg}
-use Rattle.patterns.specs.Kernel.{Target}
+use Rattle.patterns.specs.declared.Target.{Target}
 use Rattle.patterns.specs.Kinds.{Way, way, kernel_in, held_in}
 use Rattle.diffusion.specs.Biased.{biased_of}
 use Rattle.diffusion.specs.Diffusion.{Channel, cell, residual, loss_of}
@@ -43,21 +41,18 @@ opaque r g b = record { 0 = rgba r g b 255 }
 abbrev pub natural : ℕ → Value
 natural n = whole (pos n)
 
--- a width
-abbrev pub width_value : Width → Value
-width_value (Of w) = natural w
-width_value (Refused n) = refusal n
+-- an answer: what the result is, or the refusal's number
+abbrev pub answer_value : {A : Type 0} → (A → Value) → Result A Refusal → Value
+answer_value value (Ok x) = value x
+answer_value value (Err e) = refusal (number e)
 
+-- a width
 abbrev pub width : ℕ → ℕ → Value
-width shift max = width_value (bracket_width_of shift max)
+width shift max = answer_value natural (bracket_width_of shift max)
 
 -- a threshold
-abbrev pub threshold_value : Thresholded → Value
-threshold_value (thresholded.At t) = float t
-threshold_value (thresholded.Refused n) = refusal n
-
 abbrev pub threshold : ℕ → ℕ → ℕ → Value
-threshold kind x y = threshold_value (threshold_of kind x y)
+threshold kind x y = answer_value float (threshold_of kind x y)
 
 -- `lerp` from black to (10, 0, 0), and between equal ends
 abbrev pub to_red : ℕ → ℕ → ℕ → Value

@@ -23,11 +23,26 @@ pub struct Account {
     pub second_held: u16,
 }
 
-// Whether the terms add up.
-fn balances(a: Account) -> bool {
-    let dropped = a.first_dropped as u32 + a.second_dropped as u32;
-    let held = a.first_held as u32 + a.second_held as u32;
-    a.excess as u32 == a.lost as u32 + a.skipped as u32 + dropped + held
+impl Account {
+    // Whether the terms add up.
+    fn balances(self) -> bool {
+        let dropped = u32::from(self.first_dropped) + u32::from(self.second_dropped);
+        let held = u32::from(self.first_held) + u32::from(self.second_held);
+        u32::from(self.excess) == u32::from(self.lost) + u32::from(self.skipped) + dropped + held
+    }
+
+    fn terms(self) -> [i64; 7] {
+        [
+            self.excess,
+            self.lost,
+            self.skipped,
+            self.first_dropped,
+            self.second_dropped,
+            self.first_held,
+            self.second_held,
+        ]
+        .map(i64::from)
+    }
 }
 
 // ---- one channel of a pixel
@@ -40,28 +55,30 @@ struct Sample {
     chosen: u8,
 }
 
-fn byte_at(bytes: &[u8], i: usize) -> u8 {
-    if i < bytes.len() { bytes[i] } else { 0 }
+// What was lent of a picture, and what the call left.
+#[derive(Clone, Copy)]
+pub struct Drawn<'a> {
+    pub pixels: &'a [u8],
+    pub out: &'a [u8],
+    pub cells: &'a [i16],
 }
 
-fn cell_at(cells: &[i16], i: usize) -> i16 {
-    if i < cells.len() { cells[i] } else { 0 }
-}
-
-// Channel k of pixel i.
-fn sample_at(pixels: &[u8], out: &[u8], cells: &[i16], i: u8, k: u8) -> Sample {
-    let byte = 4 * i as usize + k as usize;
-    let cell = 3 * i as usize + k as usize;
-    Sample {
-        source: byte_at(pixels, byte),
-        cell: cell_at(cells, cell),
-        chosen: byte_at(out, byte),
+impl Drawn<'_> {
+    // Channel k of pixel i.
+    fn sample(&self, i: u8, k: u8) -> Sample {
+        let byte = 4 * usize::from(i) + usize::from(k);
+        let cell = 3 * usize::from(i) + usize::from(k);
+        Sample {
+            source: self.pixels.get(byte).copied().unwrap_or(0),
+            cell: self.cells.get(cell).copied().unwrap_or(0),
+            chosen: self.out.get(byte).copied().unwrap_or(0),
+        }
     }
 }
 
 // The sum of two bytes, in sixteenths.
 fn sixteen(a: u8, b: u8) -> u32 {
-    16 * (a as u32 + b as u32)
+    16 * (u32::from(a) + u32::from(b))
 }
 
 // Sixteenths given less sixteenths taken, and two cells. 64 bits have room for it, whatever these are.
@@ -69,22 +86,12 @@ fn sum(given: u32, taken: u32, first: i16, second: i16) -> i64 {
     given as i64 - taken as i64 + first as i64 + second as i64
 }
 
-// Whether so many sixteenths are less than a half past n.
-fn is_under_half_past(n: u8, sixteenths: i64) -> bool {
-    sixteenths < (16 * n as u32 + 8) as i64
-}
-
 // The whole number nearest to so many sixteenths, halves up, clipped to 0..255. (A half below zero is clipped whichever way
 // it goes.)
 fn rounded(sixteenths: i64) -> u8 {
-    let mut n: u8 = 0;
-    while n < 255 {
-        if is_under_half_past(n, sixteenths) {
-            return n;
-        }
-        n += 1;
-    }
-    255
+    (0u8..255)
+        .find(|n| sixteenths < i64::from(16 * u32::from(*n) + 8))
+        .unwrap_or(255)
 }
 
 fn biased(s: Sample) -> u8 {
@@ -92,7 +99,7 @@ fn biased(s: Sample) -> u8 {
 }
 
 fn times(weight: u16, byte: u8) -> u32 {
-    weight as u32 * byte as u32
+    u32::from(weight) * u32::from(byte)
 }
 
 // The residual times a weight.
@@ -102,73 +109,47 @@ fn share(weight: u16, s: Sample) -> i64 {
 
 // ---- the account
 
-fn is_term(n: i64, said: u16) -> bool {
-    n == said as i64
-}
-
 // Both pixels are dithered: the second sends all that it does not hold back past the edges.
-fn is_of_two(shares: Shares, a: Sample, b: Sample, said: Account) -> bool {
+fn of_two(shares: Shares, a: Sample, b: Sample) -> [i64; 7] {
     let sources = sixteen(a.source, b.source);
-    let excess = sum(sources, sixteen(a.chosen, b.chosen), 0, 0);
-    let lost = sum(sources, sixteen(biased(a), biased(b)), a.cell, b.cell);
-    let sent = shares.right as u16 + shares.others as u16;
-    (is_term(excess, said.excess) & (is_term(lost, said.lost) & (said.skipped == 0)))
-        & ((is_term(share(shares.others as u16, a), said.first_dropped)
-            & is_term(share(sent, b), said.second_dropped))
-            & (is_term(share(shares.held as u16, a), said.first_held)
-                & is_term(share(shares.held as u16, b), said.second_held)))
+    [
+        sum(sources, sixteen(a.chosen, b.chosen), 0, 0),
+        sum(sources, sixteen(biased(a), biased(b)), a.cell, b.cell),
+        0,
+        share(u16::from(shares.others), a),
+        share(u16::from(shares.right) + u16::from(shares.others), b),
+        share(u16::from(shares.held), a),
+        share(u16::from(shares.held), b),
+    ]
 }
 
 // The second is skipped: what reached it is what its cell holds.
-fn is_of_one(shares: Shares, a: Sample, b: Sample, said: Account) -> bool {
+fn of_one(shares: Shares, a: Sample, b: Sample) -> [i64; 7] {
     let source = sixteen(a.source, 0);
-    let excess = sum(source, sixteen(a.chosen, 0), 0, 0);
-    let lost = sum(source, sixteen(biased(a), 0), a.cell, 0);
-    let skipped = sum(0, 0, b.cell, 0);
-    (is_term(excess, said.excess) & (is_term(lost, said.lost) & is_term(skipped, said.skipped)))
-        & ((is_term(share(shares.others as u16, a), said.first_dropped)
-            & (said.second_dropped == 0))
-            & (is_term(share(shares.held as u16, a), said.first_held) & (said.second_held == 0)))
-}
-
-fn is_account(shares: Shares, a: Sample, b: Sample, both: bool, said: Account) -> bool {
-    if both {
-        is_of_two(shares, a, b, said)
-    } else {
-        is_of_one(shares, a, b, said)
-    }
+    [
+        sum(source, sixteen(a.chosen, 0), 0, 0),
+        sum(source, sixteen(biased(a), 0), a.cell, 0),
+        i64::from(b.cell),
+        share(u16::from(shares.others), a),
+        0,
+        share(u16::from(shares.held), a),
+        0,
+    ]
 }
 
 // Whether a channel has the account that is said, it balances, and the second cell holds the first pixel's share.
 fn channel_is(shares: Shares, a: Sample, b: Sample, both: bool, said: Account) -> bool {
-    (sum(0, 0, b.cell, 0) == share(shares.right as u16, a))
-        & (balances(said) & is_account(shares, a, b, both, said))
-}
-
-fn is_said(
-    shares: Shares,
-    pixels: &[u8],
-    out: &[u8],
-    cells: &[i16],
-    both: bool,
-    k: u8,
-    said: Account,
-) -> bool {
-    let a = sample_at(pixels, out, cells, 0, k);
-    let b = sample_at(pixels, out, cells, 1, k);
-    channel_is(shares, a, b, both, said)
+    let terms = if both {
+        of_two(shares, a, b)
+    } else {
+        of_one(shares, a, b)
+    };
+    i64::from(b.cell) == share(u16::from(shares.right), a)
+        && said.balances()
+        && terms == said.terms()
 }
 
 // Whether each channel has the account that is said. The second pixel is dithered where `both` says so.
-pub fn are_said(
-    shares: Shares,
-    pixels: &[u8],
-    out: &[u8],
-    cells: &[i16],
-    both: bool,
-    said: Account,
-) -> bool {
-    is_said(shares, pixels, out, cells, both, 0, said)
-        & (is_said(shares, pixels, out, cells, both, 1, said)
-            & is_said(shares, pixels, out, cells, both, 2, said))
+pub fn are_said(shares: Shares, drawn: Drawn, both: bool, said: Account) -> bool {
+    (0..3u8).all(|k| channel_is(shares, drawn.sample(0, k), drawn.sample(1, k), both, said))
 }

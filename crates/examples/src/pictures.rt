@@ -2,77 +2,75 @@
 // `dither_to_mode`, all by alpha; and our own, greys by `candidate_colors_in`. What a call is to write is lent with other
 // contents.
 use crate::account;
-use crate::account::{Account, Shares};
-use candidates::CandidateCount;
-use dither::{Dithered, Settings};
-use drawing::ColorZero;
-use quantize::Quantization;
+use crate::account::{Account, Drawn, Shares};
+use dither::{DitherError, Settings};
 use reducing::Reducing;
+use replies::Refusal;
 
-// Makes the table that leaves every byte as it is.
-fn identity(table: &mut [u8]) {
-    let mut i = 0;
-    while i < table.len() {
-        table[i] = (i % 256) as u8;
-        i += 1;
-    }
+// The table that leaves every byte as it is.
+fn identity() -> [u8; 256] {
+    std::array::from_fn(|i| (i % 256) as u8)
 }
 
 // ---- E7 to E9: two pixels in a row with the sources 80 and 0, and a palette of black alone
 
-const FLOYD_STEINBERG: u32 = 10;
+// A kind with a kernel, by its number, and how that shares in a row of two.
+#[derive(Clone, Copy)]
+struct Kernel {
+    kind: u32,
+    shares: Shares,
+}
 
-const ATKINSON: u32 = 9;
-
-fn floyd_steinberg() -> Shares {
-    Shares {
+const FLOYD_STEINBERG: Kernel = Kernel {
+    kind: 10,
+    shares: Shares {
         right: 7,
         others: 9,
         held: 0,
-    }
-}
+    },
+};
 
-fn atkinson() -> Shares {
-    Shares {
+const ATKINSON: Kernel = Kernel {
+    kind: 9,
+    shares: Shares {
         right: 2,
         others: 10,
         held: 4,
-    }
-}
+    },
+};
 
-// Whether both pixels became black, entry 0, of which the second is transparent where its alpha is 0.
-fn are_black(indices: &[u8], out: &[u8], alpha: u8) -> bool {
-    (indices == [0u8, 0].as_slice()) & (out == [0u8, 0, 0, 255, 0, 0, 0, alpha].as_slice())
-}
-
-// Whether the two pixels, the second with this alpha, become black and leave the account that is said.
-fn pair_is(kind: u32, shares: Shares, alpha: u8, said: Account) -> bool {
-    let mut table = [0u8; 256];
-    identity(&mut table);
-    let pixels = [80u8, 80, 80, 255, 0, 0, 0, alpha];
-    let mut indices = [7u8; 2];
-    let mut out = [7u8; 8];
-    let mut cells = [120i16; 6];
-    let reply = quantize::quantize_pixels(
+// Whether the two pixels, the second with this alpha, become black, entry 0, and leave the account that is said. The second
+// is transparent where its alpha is 0.
+fn pair_is(kernel: Kernel, alpha: u8, said: Account) -> bool {
+    let table = identity();
+    let pixels = [80, 80, 80, 255, 0, 0, 0, alpha];
+    let mut indices = [7; 2];
+    let mut out = [7; 8];
+    let mut cells = [120; 6];
+    let answer = quantize::quantize_pixels(
         3,
         Reducing::ByAlpha,
-        kind,
+        kernel.kind,
         2,
         1,
         &table,
         &table,
-        &[0u8, 0, 0, 255],
+        &[0, 0, 0, 255],
         &pixels,
         &[],
         &mut indices,
         &mut out,
         &mut cells,
     );
-    if let Quantization::Refused(_) = reply {
-        return false;
-    }
-    are_black(&indices, &out, alpha)
-        & account::are_said(shares, &pixels, &out, &cells, alpha == 255, said)
+    let drawn = Drawn {
+        pixels: &pixels,
+        out: &out,
+        cells: &cells,
+    };
+    answer.is_ok()
+        && indices == [0, 0]
+        && out == [0, 0, 0, 255, 0, 0, 0, alpha]
+        && account::are_said(kernel.shares, drawn, alpha == 255, said)
 }
 
 // 1280 = 0 + 0 + (720 + 560)
@@ -86,7 +84,7 @@ pub fn e7() -> bool {
         first_held: 0,
         second_held: 0,
     };
-    pair_is(FLOYD_STEINBERG, floyd_steinberg(), 255, said)
+    pair_is(FLOYD_STEINBERG, 255, said)
 }
 
 // 1280 = 0 + 0 + (800 + 120) + (320 + 40)
@@ -100,7 +98,7 @@ pub fn e8() -> bool {
         first_held: 320,
         second_held: 40,
     };
-    pair_is(ATKINSON, atkinson(), 255, said)
+    pair_is(ATKINSON, 255, said)
 }
 
 // 1280 = 0 + 560 + 720
@@ -114,7 +112,7 @@ pub fn e9() -> bool {
         first_held: 0,
         second_held: 0,
     };
-    pair_is(FLOYD_STEINBERG, floyd_steinberg(), 0, said)
+    pair_is(FLOYD_STEINBERG, 0, said)
 }
 
 // ---- E10: six pixels in a row, in two tiles of three
@@ -131,17 +129,16 @@ fn in_tiles(width: u32, height: u32, limit: u32) -> Settings {
         tile_width: width,
         tile_height: height,
         limit,
-        zero: ColorZero::Absent,
+        zero: None,
     }
 }
 
-fn dithered(settings: Settings, pixels: &[u8]) -> Dithered {
-    let mut table = [0u8; 256];
-    identity(&mut table);
-    let mut places = [7u8; 24];
-    let mut oklab = [7.5f32; 18];
-    let mut out = [7u8; 24];
-    let mut cells = [0i16; 0];
+fn dithered(settings: Settings, pixels: &[u8]) -> Result<u32, DitherError> {
+    let table = identity();
+    let mut places = [7; 24];
+    let mut oklab = [7.5; 18];
+    let mut out = [7; 24];
+    let mut cells = [];
     dither::dither_to_mode(
         settings,
         &table,
@@ -157,20 +154,16 @@ fn dithered(settings: Settings, pixels: &[u8]) -> Dithered {
 
 // Whether a picture of this limit is accepted with so many candidates.
 fn is_accepted(limit: u32, pixels: &[u8], candidates: u32) -> bool {
-    match dithered(in_tiles(3, 1, limit), pixels) {
-        Dithered::Count(count) => count == candidates,
-        Dithered::Over { tile: _, count: _ } => false,
-        Dithered::Refused(_) => false,
-    }
+    dithered(in_tiles(3, 1, limit), pixels) == Ok(candidates)
 }
 
 // Whether its first tile over the limit is the second, and it has so many candidates.
 fn is_over(limit: u32, pixels: &[u8], candidates: u32) -> bool {
-    match dithered(in_tiles(3, 1, limit), pixels) {
-        Dithered::Count(_) => false,
-        Dithered::Over { tile, count } => (tile == 1) & (count == candidates),
-        Dithered::Refused(_) => false,
-    }
+    let over = DitherError::TileOver {
+        tile: 1,
+        count: candidates,
+    };
+    dithered(in_tiles(3, 1, limit), pixels) == Err(over)
 }
 
 // A first tile that is transparent, and a second of opaque pixels with these reds.
@@ -181,22 +174,19 @@ fn reds(a: u8, b: u8, c: u8) -> [u8; 24] {
 }
 
 pub fn e10() -> bool {
-    let mut one_opaque = [9u8; 24];
+    let mut one_opaque = [9; 24];
     one_opaque[19] = 255;
-    let nothing = is_accepted(0, &[9u8; 24], 0) & is_over(0, &one_opaque, 1);
-    let two = is_accepted(2, &reds(10, 20, 10), 2) & is_over(2, &reds(10, 20, 30), 3);
-    nothing & two
+    is_accepted(0, &[9; 24], 0)
+        && is_over(0, &one_opaque, 1)
+        && is_accepted(2, &reds(10, 20, 10), 2)
+        && is_over(2, &reds(10, 20, 30), 3)
 }
 
 // ---- E11: palettes of 256 and 257 entries, tile side 0
 
-fn number_for(palette: &[u8]) -> u8 {
-    let table = [0u8; 256];
-    let pixel = [9u8, 9, 9, 255];
-    let mut index = [7u8; 1];
-    let mut out = [7u8; 4];
-    let mut cells = [0i16; 0];
-    match quantize::quantize_pixels(
+fn quantized(palette: &[u8]) -> Result<(), Refusal> {
+    let table = [0; 256];
+    quantize::quantize_pixels(
         3,
         Reducing::ByAlpha,
         0,
@@ -205,29 +195,24 @@ fn number_for(palette: &[u8]) -> u8 {
         &table,
         &table,
         palette,
-        &pixel,
+        &[9, 9, 9, 255],
         &[],
-        &mut index,
-        &mut out,
-        &mut cells,
-    ) {
-        Quantization::Accepted => 0,
-        Quantization::Refused(number) => number,
-    }
+        &mut [7; 1],
+        &mut [7; 4],
+        &mut [],
+    )
 }
 
-fn number_in(width: u32, height: u32) -> u8 {
-    match dithered(in_tiles(width, height, 2), &[9u8; 24]) {
-        Dithered::Count(_) => 0,
-        Dithered::Over { tile: _, count: _ } => 8,
-        Dithered::Refused(number) => number,
-    }
+// Whether tiles of this size are refused.
+fn is_refused(width: u32, height: u32) -> bool {
+    dithered(in_tiles(width, height, 2), &[9; 24]) == Err(DitherError::Refused(Refusal::Tiles))
 }
 
 pub fn e11() -> bool {
-    let palettes = (number_for(&[0u8; 1024]) == 0) & (number_for(&[0u8; 1028]) == 4);
-    let sides = (number_in(0, 1) == 5) & (number_in(3, 0) == 5);
-    palettes & sides
+    quantized(&[0; 1024]) == Ok(())
+        && quantized(&[0; 1028]) == Err(Refusal::Entries)
+        && is_refused(0, 1)
+        && is_refused(3, 0)
 }
 
 // ---- greys: white, 53, black and 61, by their lumas. No alpha is asked, and of the picture's own pixels nothing.
@@ -238,23 +223,20 @@ fn four(a: u8, b: u8, c: u8, d: u8, t: u8) -> [u8; 16] {
 }
 
 pub fn greys() -> bool {
-    let mut table = [0u8; 256];
-    identity(&mut table);
-    let mut places = [7u8; 16];
-    let mut oklab = [7.5f32; 12];
-    match candidates::candidate_colors_in(
+    let table = identity();
+    let mut places = [7; 16];
+    let mut oklab = [7.5; 12];
+    let count = candidates::candidate_colors_in(
         6,
         Reducing::Grey,
         4,
         1,
         &table,
         &table,
-        &[9u8; 16],
+        &[9; 16],
         &four(255, 53, 0, 61, 0),
         &mut places,
         &mut oklab,
-    ) {
-        CandidateCount::Count(n) => (n == 4) & (places == four(0, 52, 60, 255, 255)),
-        CandidateCount::Refused(_) => false,
-    }
+    );
+    count == Ok(4) && places == four(0, 52, 60, 255, 255)
 }

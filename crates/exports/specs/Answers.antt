@@ -1,22 +1,16 @@
 -- What the calls on colours and thresholds answer through the C interface and leave behind their pointers: the answer's value on acceptance, and otherwise
--- what was there; the number is the one that the answer's own `number_of` gives. The result is the
--- definition that has the call's name, and that it is so is the call's promise. Definitions only.
+-- what was there; the number is 0, or the refusal's. The result is the definition that has the call's name, and that it is so is the call's promise.
+-- Definitions only.
 -- Written from document 01, "Bounds and replies": "A refusal returns no colour", "all unchanged".
-use Rattle.std.specs.Prelude.{◌≡◌, ℕ, not, eqb, Float}
+use Rattle.std.specs.Prelude.{◌≡◌, ℕ, not, eqb, Float, Result, Ok, Err}
+use Rattle.replies.specs.declared.Refusal.{Refusal}
+use Rattle.replies.specs.Refusals.{number}
 use Rattle.color.specs.declared.NormalizedColor.{NormalizedColor}
 use Rattle.color.specs.declared.Oklab.{Oklab}
-use Rattle.color.specs.declared.Distance.{Distance}
-use Rattle.color.specs.declared.Distance.TheVariants.{Squared, Refused}
 use Rattle.color.specs.Color.{rgba}
-use Rattle.color.specs.Oklab.{distance_of, number_of}
+use Rattle.color.specs.Oklab.{distance_of}
 use Rattle.conversion.specs.Oklab.{to_oklab}
-use Rattle.patterns.specs.declared.Thresholded.{Thresholded}
-use Rattle.patterns.specs.declared.Thresholded.TheVariants as thresholded
-use Rattle.patterns.specs.Thresholds as thresholds
 use Rattle.patterns.specs.Thresholds.{threshold_of}
-use Rattle.mixing.specs.declared.Width.{Width}
-use Rattle.mixing.specs.declared.Width.TheVariants as width
-use Rattle.mixing.specs.Widths as widths
 use Rattle.mixing.specs.Widths.{bracket_width_of}
 use Rattle.mixing.specs.Lerp.{lerp_of}
 
@@ -39,35 +33,28 @@ badge_to_oklab r g b = parts_of (to_oklab (opaque_rgb r g b))
 abbrev pub PromisedToOklab : (r g b : ℕ) → Float × Float × Float → Type 0
 PromisedToOklab r g b left = left ≡ badge_to_oklab r g b
 
--- ---- `badge_oklab_sqdist`: the number, and the distance
-abbrev pub distance_left : Float → Distance → ℕ × Float
-distance_left was (Squared d) = (number_of (Squared d), d)
-distance_left was (Refused n) = (number_of (Refused n), was)
+-- ---- what is left of an answer, where the pointer held `was`: the number, and the value or what was there
+abbrev pub left : {A : Type 0} → A → Result A Refusal → ℕ × A
+left was (Ok value) = (0, value)
+left was (Err e) = (number e, was)
 
+-- ---- `badge_oklab_sqdist`: the number, and the distance
 abbrev pub badge_oklab_sqdist : (l1 a1 b1 l2 a2 b2 was : Float) → ℕ × Float
-badge_oklab_sqdist l1 a1 b1 l2 a2 b2 was = distance_left was (distance_of (oklab l1 a1 b1) (oklab l2 a2 b2))
+badge_oklab_sqdist l1 a1 b1 l2 a2 b2 was = left was (distance_of (oklab l1 a1 b1) (oklab l2 a2 b2))
 
 abbrev pub PromisedOklabSqdist : (l1 a1 b1 l2 a2 b2 was : Float) → ℕ × Float → Type 0
 PromisedOklabSqdist l1 a1 b1 l2 a2 b2 was left = left ≡ badge_oklab_sqdist l1 a1 b1 l2 a2 b2 was
 
 -- ---- `badge_ordered_threshold`: the number, and the threshold
-abbrev pub threshold_left : Float → Thresholded → ℕ × Float
-threshold_left was (thresholded.At t) = (thresholds.number_of (thresholded.At t), t)
-threshold_left was (thresholded.Refused n) = (thresholds.number_of (thresholded.Refused n), was)
-
 abbrev pub badge_ordered_threshold : (kind x y : ℕ) → Float → ℕ × Float
-badge_ordered_threshold kind x y was = threshold_left was (threshold_of kind x y)
+badge_ordered_threshold kind x y was = left was (threshold_of kind x y)
 
 abbrev pub PromisedOrderedThreshold : (kind x y : ℕ) → Float → ℕ × Float → Type 0
 PromisedOrderedThreshold kind x y was left = left ≡ badge_ordered_threshold kind x y was
 
 -- ---- `badge_bracket_width`: the number, and the width
-abbrev pub width_left : ℕ → Width → ℕ × ℕ
-width_left was (width.Of w) = (widths.number_of (width.Of w), w)
-width_left was (width.Refused n) = (widths.number_of (width.Refused n), was)
-
 abbrev pub badge_bracket_width : (shift max was : ℕ) → ℕ × ℕ
-badge_bracket_width shift max was = width_left was (bracket_width_of shift max)
+badge_bracket_width shift max was = left was (bracket_width_of shift max)
 
 abbrev pub PromisedBracketWidth : (shift max was : ℕ) → ℕ × ℕ → Type 0
 PromisedBracketWidth shift max was left = left ≡ badge_bracket_width shift max was

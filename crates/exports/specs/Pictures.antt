@@ -2,14 +2,13 @@
 -- definition that has the call's name, and that it is so is the call's promise. Definitions only.
 -- Written from document 01, "Bounds and replies": "On acceptance the candidate rooms hold the list (counted in the answer)", "all unchanged";
 -- and from document 02, Ask 5: "Each call names its reduction", "1 for any other pairing".
-use Rattle.std.specs.Prelude.{◌≡◌, ℕ, cond, List, eqb, ltb, ℤ, Float, length}
+use Rattle.std.specs.Prelude.{◌≡◌, ℕ, cond, List, eqb, ltb, ℤ, Float, length, Option, Some, None}
 use Rattle.replies.specs.Replies.{first_reply, after}
 use Rattle.reducing.specs.declared.Reducing.{Reducing}
 use Rattle.reducing.specs.declared.Reducing.TheVariants.{ByAlpha, Grey, OpaqueColor}
 use Rattle.candidates.specs.Calls.{Asked, candidates_in, replies, places_after, oklab_after}
 use Rattle.color.specs.Color.{rgba}
-use Rattle.drawing.specs.declared.ColorZero.{ColorZero}
-use Rattle.drawing.specs.declared.ColorZero.TheVariants.{Absent, Is}
+use Rattle.color.specs.declared.ReducedColor.{ReducedColor}
 use Rattle.drawing.specs.Lent.{cells_after}
 use Rattle.quantize.specs.Quantize as quantize
 use Rattle.quantize.specs.Quantize.{Commission, commission, quantizing, indices_of, pixels_of}
@@ -65,11 +64,11 @@ PromisedQuantizePixels n q indices out cells left = left ≡ named n (λ by. bad
 
 -- ---- `badge_dither_to_mode`: the number, the buffers, how many candidates there are, and the first tile over its limit
 -- colour zero: absent where the flag is 0, else the reduced colour of four bytes
-unfoldable pub zero_of : ℕ → (r g b a : ℕ) → ColorZero
-zero_of flag r g b a = cond (eqb flag 0) Absent (Is (record { 0 = rgba r g b a }))
+unfoldable pub zero_of : ℕ → (r g b a : ℕ) → Option ReducedColor
+zero_of flag r g b a = cond (eqb flag 0) None (Some (record { 0 = rgba r g b a }))
 
 -- the settings, from their parts, by the reduction
-abbrev pub settings_of : (shift kind width height origin_x origin_y tile_width tile_height limit : ℕ) → ColorZero → Reducing → Settings
+abbrev pub settings_of : (shift kind width height origin_x origin_y tile_width tile_height limit : ℕ) → Option ReducedColor → Reducing → Settings
 settings_of shift kind width height origin_x origin_y tile_width tile_height limit zero reducing = record {
   kind = kind;
   shift = shift;

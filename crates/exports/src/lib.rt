@@ -6,21 +6,30 @@
 ghost use Rattle.std.specs.Prelude.{◌≡◌, length};
 ghost use Rattle.color.specs.Color.{reduced_at, bytes_of};
 ghost use Rattle.dither.specs.Mode as mode;
-ghost use Rattle.exports.specs.Answers.{PromisedToOklab, PromisedOklabSqdist, PromisedOrderedThreshold, PromisedBracketWidth, PromisedLerp};
+ghost use Rattle.exports.specs.Answers.{left, PromisedToOklab, PromisedOklabSqdist, PromisedOrderedThreshold, PromisedBracketWidth, PromisedLerp};
 ghost use Rattle.exports.specs.Files.{PromisedPamSize, PromisedReadPam, PromisedPamLength, PromisedWritePam};
-ghost use Rattle.exports.specs.Lookups.{PromisedNearest, second_position, PromisedNearestTwo, PromisedOrderedBracket, PromisedPick};
-ghost use Rattle.exports.specs.Pictures.{reducing_of, lent_to, asked, drawn_by, PromisedCandidateColorsIn, PromisedQuantizePixels, zero_of, settings_of, PromisedDitherToMode};
+ghost use Rattle.exports.specs.Lookups.{PromisedNearest, PromisedNearestTwo, PromisedOrderedBracket, PromisedPick};
+ghost use Rattle.exports.specs.Pictures.{lent_to, asked, drawn_by, PromisedCandidateColorsIn, PromisedQuantizePixels, zero_of, settings_of, PromisedDitherToMode};
 
-use candidates::CandidateCount;
-use color::{Distance, NormalizedColor, Oklab, ReducedColor, put_rgba, rgba_at};
-use dither::{Dithered, Settings};
-use drawing::ColorZero;
-use lookup::{Bracket, Found, FoundBracket, FoundTwo, Picked, Second, Two};
-use mixing::Width;
-use pam::{Length, Size, Written};
-use patterns::Thresholded;
-use quantize::Quantization;
+use color::{NormalizedColor, Oklab, ReducedColor, put_rgba, rgba_at};
+use dither::{DitherError, Settings};
+use lookup::Bracket;
+use pam::Size;
 use reducing::Reducing;
+use replies::Refusal;
+
+// Hands an answer over: the value, with 0; or the refusal's number alone.
+fn handed<T: Copy>(answer: Result<T, Refusal>, out: &mut T) -> u32
+    ensures { (result, out.new) ≡ left out.old answer }
+{
+    match answer {
+        Ok(value) => {
+            *out = value;
+            0
+        }
+        Err(refusal) => u32::from(refusal),
+    }
+}
 
 // The Oklab colour of a colour.
 #[unsafe(no_mangle)]
@@ -63,13 +72,7 @@ pub extern "C" fn badge_oklab_sqdist(
         a: a2,
         b: b2,
     };
-    match color::oklab_sqdist(p, q) {
-        Distance::Squared(d) => {
-            *distance = d;
-            0
-        }
-        Distance::Refused(number) => number as u32,
-    }
+    handed(color::oklab_sqdist(p, q), distance)
 }
 
 // The threshold of a kind at column x and row y; 1, 15 and 9.
@@ -77,13 +80,7 @@ pub extern "C" fn badge_oklab_sqdist(
 pub extern "C" fn badge_ordered_threshold(kind: u32, x: u32, y: u32, threshold: &mut f32) -> u32
     ensures { PromisedOrderedThreshold kind x y threshold.old (result, threshold.new) }
 {
-    match patterns::ordered_threshold(kind, x, y) {
-        Thresholded::At(t) => {
-            *threshold = t;
-            0
-        }
-        Thresholded::Refused(number) => number as u32,
-    }
+    handed(patterns::ordered_threshold(kind, x, y), threshold)
 }
 
 // How many candidates `badge_nearest_two` considers; 1.
@@ -91,13 +88,7 @@ pub extern "C" fn badge_ordered_threshold(kind: u32, x: u32, y: u32, threshold: 
 pub extern "C" fn badge_bracket_width(shift: u32, max: u64, width: &mut u64) -> u32
     ensures { PromisedBracketWidth shift max width.old (result, width.new) }
 {
-    match mixing::bracket_width(shift, max) {
-        Width::Of(w) => {
-            *width = w;
-            0
-        }
-        Width::Refused(number) => number as u32,
-    }
+    handed(mixing::bracket_width(shift, max), width)
 }
 
 // The share of the second colour in the mix of two that comes nearest to a third, clamped to 0..1 where the flag is not 0.
@@ -139,27 +130,17 @@ pub extern "C" fn badge_nearest(
         (result, position.new) }
 {
     let color = NormalizedColor::new(r, g, b, 255);
-    match lookup::flat_nearest(reduced, normalized, oklab, color) {
-        Found::At(k) => {
+    let nearest = lookup::flat_nearest(reduced, normalized, oklab, color);
+    match nearest {
+        Ok(k) => {
             *position = k as u32;
             0
         }
-        Found::Refused(number) => number as u32,
+        Err(refusal) => u32::from(refusal),
     }
 }
 
-// The position of the second, and that of the first where there is none.
-fn second_of(two: Two) -> usize
-    ensures { result ≡ second_position two }
-{
-    let second = two.second;
-    match second {
-        Second::At(k) => k,
-        Second::Nothing => two.first,
-    }
-}
-
-// The positions of the nearest entry and of the second; 3, 4 and 6.
+// The positions of the nearest entry and of the second; 3, 4 and 6. Where there is no second, the nearest stands for it.
 #[unsafe(no_mangle)]
 pub extern "C" fn badge_nearest_two(
     reduced: &[u8],
@@ -177,14 +158,14 @@ pub extern "C" fn badge_nearest_two(
 {
     let color = NormalizedColor::new(r, g, b, 255);
     match lookup::flat_nearest_two(reduced, normalized, oklab, color, width) {
-        FoundTwo::At(two) => {
+        Ok(two) => {
             let nearest = two.first as u32;
-            let other = second_of(two) as u32;
+            let other = two.second.unwrap_or(two.first) as u32;
             *first = nearest;
             *second = other;
             0
         }
-        FoundTwo::Refused(number) => number as u32,
+        Err(refusal) => u32::from(refusal),
     }
 }
 
@@ -225,11 +206,11 @@ pub extern "C" fn badge_ordered_bracket(
         (result, dark.new, light.new, ratio.new, dark_position.new, light_position.new) }
 {
     if !((dark.len() == 4) & (light.len() == 4)) {
-        return 3;
+        return u32::from(Refusal::Length);
     }
     let color = NormalizedColor::new(r, g, b, 255);
     match lookup::flat_ordered_bracket(reduced, normalized, oklab, color, width) {
-        FoundBracket::Of(bracket) => {
+        Ok(bracket) => {
             let dark_at = bracket.dark_position as u32;
             let light_at = bracket.light_position as u32;
             put_color(dark, bracket.dark);
@@ -239,7 +220,7 @@ pub extern "C" fn badge_ordered_bracket(
             *light_position = light_at;
             0
         }
-        FoundBracket::Refused(number) => number as u32,
+        Err(refusal) => u32::from(refusal),
     }
 }
 
@@ -257,13 +238,13 @@ pub extern "C" fn badge_pick(
     ensures { PromisedPick dark.now light.now ratio kind x y chosen.old (result, chosen.new) }
 {
     if !patterns::is_kind(kind) {
-        return 1;
+        return u32::from(Refusal::KindOrShift);
     }
     if patterns::is_retired(kind) {
-        return 15;
+        return u32::from(Refusal::RetiredKind);
     }
     if !((dark.len() == 4) & ((light.len() == 4) & (chosen.len() == 4))) {
-        return 3;
+        return u32::from(Refusal::Length);
     }
     let bracket = Bracket {
         dark: color_in(dark),
@@ -273,33 +254,15 @@ pub extern "C" fn badge_pick(
         light_position: 0,
     };
     match lookup::pick(bracket, kind, x, y) {
-        Picked::Of(choice) => {
+        Ok(choice) => {
             put_color(chosen, choice.color);
             0
         }
-        Picked::Refused(number) => number as u32,
+        Err(refusal) => u32::from(refusal),
     }
 }
 
-// ---- pictures
-
-// ---- the picture calls. A number that is no reduction is refused with 1, as a pairing that there is not
-
-// The largest number of a reduction.
-const LAST_REDUCING: u32 = 2;
-
-// The reduction with a number; those above the last name none.
-fn reducing_of(number: u32) -> Reducing
-    ensures { result ≡ reducing_of number }
-{
-    if number == 0 {
-        return Reducing::ByAlpha;
-    }
-    if number == 1 {
-        return Reducing::Grey;
-    }
-    Reducing::OpaqueColor
-}
+// ---- pictures. A number that is no reduction is refused with 1, as a pairing that there is not
 
 // The candidates of a picture, and how many; 1, 2, 3 and 7.
 #[unsafe(no_mangle)]
@@ -320,27 +283,13 @@ pub extern "C" fn badge_candidate_colors_in<'a>(
         places.old oklab.old in
         PromisedCandidateColorsIn reducing x count.old (result, places.new, oklab.new, count.new) }
 {
-    if LAST_REDUCING < reducing {
-        return 1;
-    }
-    match candidates::candidate_colors_in(
-        shift,
-        reducing_of(reducing),
-        width,
-        height,
-        reduction,
-        scale,
-        pixels,
-        opaque,
-        places,
-        oklab,
-    ) {
-        CandidateCount::Count(counted) => {
-            *count = counted;
-            0
-        }
-        CandidateCount::Refused(number) => number as u32,
-    }
+    let Ok(by) = Reducing::try_from(reducing) else {
+        return u32::from(Refusal::KindOrShift);
+    };
+    let counted = candidates::candidate_colors_in(
+        shift, by, width, height, reduction, scale, pixels, opaque, places, oklab,
+    );
+    handed(counted, count)
 }
 
 // Quantizes a picture to a palette; 1, 15, 2, 3 and 4.
@@ -365,37 +314,26 @@ pub extern "C" fn badge_quantize_pixels(
         PromisedQuantizePixels reducing q indices.old out.old cells.old
         (result, indices.new, out.new, cells.new) }
 {
-    if LAST_REDUCING < reducing {
-        return 1;
-    }
+    let Ok(by) = Reducing::try_from(reducing) else {
+        return u32::from(Refusal::KindOrShift);
+    };
     match quantize::quantize_pixels(
-        shift,
-        reducing_of(reducing),
-        kind,
-        width,
-        height,
-        reduction,
-        scale,
-        palette,
-        pixels,
-        opaque,
-        indices,
-        out,
+        shift, by, kind, width, height, reduction, scale, palette, pixels, opaque, indices, out,
         cells,
     ) {
-        Quantization::Accepted => 0,
-        Quantization::Refused(number) => number as u32,
+        Ok(()) => 0,
+        Err(refusal) => u32::from(refusal),
     }
 }
 
 // Colour zero as the flag and the bytes have it.
-fn color_zero(has_zero: u32, r: u8, g: u8, b: u8, a: u8) -> ColorZero
+fn color_zero(has_zero: u32, r: u8, g: u8, b: u8, a: u8) -> Option<ReducedColor>
     ensures { result ≡ zero_of has_zero r g b a }
 {
     if has_zero == 0 {
-        return ColorZero::Absent;
+        return None;
     }
-    ColorZero::Is(ReducedColor::new(r, g, b, a))
+    Some(ReducedColor::new(r, g, b, a))
 }
 
 // Dithers a picture to a mode and judges its tiles; 1, 15, 2, 3, 5, 7 and 8. After 8 there are a count and a tile, too.
@@ -434,13 +372,13 @@ pub extern "C" fn badge_dither_to_mode<'a>(
         let then = mode.buffers places.new oklab.new out.new cells.new in
         PromisedDitherToMode reducing q was count.old tile.old (result, then, count.new, tile.new) }
 {
-    if LAST_REDUCING < reducing {
-        return 1;
-    }
+    let Ok(reducing) = Reducing::try_from(reducing) else {
+        return u32::from(Refusal::KindOrShift);
+    };
     let settings = Settings {
         kind,
         shift,
-        reducing: reducing_of(reducing),
+        reducing,
         width,
         height,
         origin_x,
@@ -453,16 +391,17 @@ pub extern "C" fn badge_dither_to_mode<'a>(
     match dither::dither_to_mode(
         settings, reduction, scale, pixels, opaque, places, oklab, out, cells,
     ) {
-        Dithered::Count(k) => {
+        Ok(k) => {
             *count = k;
             0
         }
-        Dithered::Over { tile: t, count: k } => {
+        // Kept: 8 as a number. The error is taken apart here, so that it has none to be asked for.
+        Err(DitherError::TileOver { tile: t, count: k }) => {
             *tile = t;
             *count = k;
             8
         }
-        Dithered::Refused(number) => number as u32,
+        Err(DitherError::Refused(refusal)) => u32::from(refusal),
     }
 }
 
@@ -474,12 +413,17 @@ pub extern "C" fn badge_pam_size(file: &[u8], width: &mut u32, height: &mut u32)
     ensures { PromisedPamSize file.now width.old height.old (result, width.new, height.new) }
 {
     match pam::pam_size(file) {
-        Size::Of(columns, rows) => {
+        Ok(
+            Size {
+                width: columns,
+                height: rows,
+            },
+        ) => {
             *width = columns;
             *height = rows;
             0
         }
-        Size::Refused(number) => number as u32,
+        Err(refusal) => u32::from(refusal),
     }
 }
 
@@ -495,12 +439,12 @@ pub extern "C" fn badge_read_pam(
         (result, pixels.new, width.new, height.new) }
 {
     match pam::read_pam(file, pixels) {
-        Size::Of(w, h) => {
-            *width = w;
-            *height = h;
+        Ok(size) => {
+            *width = size.width;
+            *height = size.height;
             0
         }
-        Size::Refused(number) => number as u32,
+        Err(refusal) => u32::from(refusal),
     }
 }
 
@@ -509,13 +453,7 @@ pub extern "C" fn badge_read_pam(
 pub extern "C" fn badge_pam_length(width: u32, height: u32, length: &mut u64) -> u32
     ensures { PromisedPamLength width height length.old (result, length.new) }
 {
-    match pam::pam_length(width, height) {
-        Length::Of(bytes) => {
-            *length = bytes;
-            0
-        }
-        Length::Refused(number) => number as u32,
-    }
+    handed(pam::pam_length(width, height), length)
 }
 
 // Writes a picture's file; 10, 2 and 3.
@@ -524,7 +462,7 @@ pub extern "C" fn badge_write_pam(width: u32, height: u32, pixels: &[u8], file: 
     ensures { PromisedWritePam width height pixels.now file.old (result, file.new) }
 {
     match pam::write_pam(width, height, pixels, file) {
-        Written::Accepted => 0,
-        Written::Refused(number) => number as u32,
+        Ok(()) => 0,
+        Err(refusal) => u32::from(refusal),
     }
 }

@@ -19,7 +19,7 @@ use Rattle.floats.proofs.At.{div_at}
 use Rattle.floats.proofs.Over.{is_neg, over_value, round_value}
 use Rattle.floats.proofs.Sixteenths.{whole_sixteenths, sixteenths-add, sixteenths_by_16, whole_cast}
 use Rattle.floats.proofs.Bytes.{byte_is, diff_is}
-use Rattle.patterns.specs.Kernel.{Target}
+use Rattle.patterns.specs.declared.Target.{Target}
 use Rattle.diffusion.specs.Biased.{halves, clip, biased_of}
 use Rattle.float_cells.specs.Arithmetic.{round_f, most_f, clamp_f, clamp_u8, biased_f, residual_f, ratio_f, sixteen_times}
 

@@ -22,8 +22,10 @@ use Rattle.drawing.specs.Lent.{cells_after}
 use Rattle.candidates.specs.Rooms.{too_many}
 use Rattle.judging.specs.Tiles.{tile_count}
 use Rattle.judging.proofs.JudgedLaws.{over_same}
-use Rattle.dither.specs.declared.Dithered.{Dithered}
-use Rattle.dither.specs.declared.Dithered.TheVariants.{Count, Over, Refused}
+use Rattle.std.specs.Prelude.{Result, Ok, Err}
+use Rattle.replies.specs.Refusals.{refusal}
+use Rattle.dither.specs.declared.DitherError.{DitherError}
+use Rattle.dither.specs.declared.DitherError.TheVariants.{TileOver, Refused}
 use Rattle.dither.specs.Mode.{Commission, Buffers, DitheredToMode, dithering, reduced_of, candidate_list, tiles, tile_over, over_budget}
 use Rattle.dither.specs.Mode.{bounds_wrong, lengths_wrong, budget_wrong, lengths_of, checks, replies, number_of, answer_of, leaves, places_after, oklab_after, out_after, cells_left}
 use Rattle.float_cells.specs.Arithmetic.{sixteen_times}
@@ -32,7 +34,7 @@ use Rattle.float_cells.specs.Calls.{BuffersF, with_floats, lengths_f, tile_over_
 use Rattle.float_cells.proofs.Drawn.{source_byte, scaled_byte, drawn_same, error_sixteenths, error_counts}
 use Rattle.float_cells.proofs.Shared.{row_changed, finished_same}
 
-module _ {q : Commission} {was then : Buffers} {floats₀ : List Float} {then' : BuffersF} {r s : Dithered} (x : DitheredToMode q was r then)
+module _ {q : Commission} {was then : Buffers} {floats₀ : List Float} {then' : BuffersF} {r s : Result ℕ DitherError} (x : DitheredToMode q was r then)
     (y : DitheredToModeF q (with_floats was floats₀) s then') (pixels : Bytes q.pixels) (scale : Bytes q.scale) where
   abbrev d : Drawing
   d = dithering q
@@ -56,7 +58,8 @@ module _ {q : Commission} {was then : Buffers} {floats₀ : List Float} {then' :
   answers_same : (n : ℕ) → answer_of q n ≡ answer_f q n
   unfolding answer_of answer_f
   answers_same n = λ t.
-      cond (eqb n 0) (Count (length (candidate_list q))) (cond (eqb n 8) (Over (tile_same t) (length (candidate_list q))) (Refused n))
+      cond (eqb n 0) (Ok (length (candidate_list q)))
+      (Err (cond (eqb n 8) (TileOver (tile_same t) (length (candidate_list q))) (Refused (refusal n))))
 
   -- ---- one answer
   answer_by : first_reply (replies q was) ≡ first_reply (replies_f q (with_floats was floats₀)) → r ≡ s
@@ -121,8 +124,8 @@ module _ {q : Commission} {was then : Buffers} {floats₀ : List Float} {then' :
   unfolding out_after
   results e = record {
     answer = e;
-    candidate_places = x.candidate_places ∙ ap (λ (a : Dithered). places_after q was.places (number_of a)) e ∙ sym y.candidate_places;
-    candidate_oklab = x.candidate_oklab ∙ ap (λ (a : Dithered). oklab_after q was.oklab (number_of a)) e ∙ sym y.candidate_oklab;
+    candidate_places = x.candidate_places ∙ ap (λ (a : Result ℕ DitherError). places_after q was.places (number_of a)) e ∙ sym y.candidate_places;
+    candidate_oklab = x.candidate_oklab ∙ ap (λ (a : Result ℕ DitherError). oklab_after q was.oklab (number_of a)) e ∙ sym y.candidate_oklab;
     picture =
         x.picture
         ∙ (λ t. leaves (number_of (e t)) (finished_same d same t) (replicate (length was.out) 0) was.out)

@@ -15,15 +15,17 @@ use Rattle.patterns.specs.Kinds.{is_kind, is_retired}
 use Rattle.reducing.specs.Reduce.{is_pairing}
 use Rattle.drawing.specs.Drawing.{Drawing, drawn}
 use Rattle.drawing.specs.Lent.{cells_after}
-use Rattle.quantize.specs.declared.Quantization.{Quantization}
-use Rattle.quantize.specs.Quantize.{Commission, Quantized, quantizing, entries, entries_wrong, lengths_wrong, lengths_of, checks, replies, number_of, answer_of}
+use Rattle.std.specs.Prelude.{Result}
+use Rattle.replies.specs.Refusals.{number_of, answer}
+use Rattle.replies.specs.declared.Refusal.{Refusal}
+use Rattle.quantize.specs.Quantize.{Commission, Quantized, quantizing, entries, entries_wrong, lengths_wrong, lengths_of, checks, replies}
 use Rattle.float_cells.specs.Arithmetic.{sixteen_times}
 use Rattle.float_cells.specs.Drawn.{drawn_f, error_f, Bytes}
 use Rattle.float_cells.specs.Calls.{QuantizedF, SameQuantized}
 use Rattle.float_cells.proofs.Drawn.{source_byte, scaled_byte, drawn_same, error_sixteenths, error_counts}
 use Rattle.float_cells.proofs.Shared.{row_changed, finished_same, index_same}
 
-module _ {q : Commission} {indices₀ out₀ : List ℕ} {cells₀ : List ℤ} {floats₀ : List Float} {r s : Quantization}
+module _ {q : Commission} {indices₀ out₀ : List ℕ} {cells₀ : List ℤ} {floats₀ : List Float} {r s : Result Unit Refusal}
     {indices indices' out out' : List ℕ} {cells : List ℤ} {floats : List Float} (x : Quantized q indices₀ out₀ cells₀ r indices out cells)
     (y : QuantizedF q indices₀ out₀ floats₀ s indices' out' floats) where
   -- the rows before 3 and behind it
@@ -39,9 +41,9 @@ module _ {q : Commission} {indices₀ out₀ : List ℕ} {cells₀ : List ℤ} {
 
   answer_by : first_reply (replies q indices₀ out₀ cells₀) ≡ first_reply (replies q indices₀ out₀ floats₀) → r ≡ s
   answer_by e =
-      answered number_of (replies q indices₀ out₀ cells₀) answer_of x.answer
-      ∙ ap answer_of e
-      ∙ sym (answered number_of (replies q indices₀ out₀ floats₀) answer_of y.answer)
+      answered number_of (replies q indices₀ out₀ cells₀) (answer tt) x.answer
+      ∙ ap (answer tt) e
+      ∙ sym (answered number_of (replies q indices₀ out₀ floats₀) (answer tt) y.answer)
 
   -- as many cells: one answer
   same_length : length cells₀ ≡ length floats₀ → r ≡ s

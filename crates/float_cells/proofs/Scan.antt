@@ -16,7 +16,8 @@ use Rattle.floats.specs.Bytes.{zero_f}
 use Rattle.floats.specs.Cells.{Cells}
 use Rattle.floats.proofs.Bytes.{diff_size}
 use Rattle.floats.proofs.Cells.{cell_at}
-use Rattle.patterns.specs.Kernel.{Target, total, later, weighted}
+use Rattle.patterns.specs.declared.Target.{Target}
+use Rattle.patterns.specs.Kernel.{total, later, weighted}
 use Rattle.diffusion.specs.Biased.{biased_of}
 use Rattle.diffusion.specs.Diffusion.{Picture, channel, residual_of, biased, Follows}
 use Rattle.diffusion.specs.Scatter.{scatter, cell_buffer}

@@ -16,7 +16,8 @@ use Rattle.floats.specs.Over.{wholef, sixteenths}
 use Rattle.floats.specs.Cells.{Cells}
 use Rattle.floats.proofs.Int.{sum_size, sum_bound, product_bound}
 use Rattle.floats.proofs.Cells.{cells_send}
-use Rattle.patterns.specs.Kernel.{Target, Place, pixel, outside, landing, weighted}
+use Rattle.patterns.specs.declared.Target.{Target}
+use Rattle.patterns.specs.Kernel.{Place, pixel, outside, landing, weighted}
 use Rattle.diffusion.specs.Diffusion.{is_at, weight_to}
 use Rattle.diffusion.specs.Scatter.{more, send, sends}
 use Rattle.diffusion.specs.Sends.{Room}

@@ -5,7 +5,7 @@ use Rattle.std.specs.Prelude.{ℕ, ◌+◌, ◌*◌, ◌/◌, false, cond, ℤ, 
 use Rattle.std.specs.Float.{nan, inf, fin, binary32}
 use Rattle.std.specs.Float.Ieee.{up, down, round, add, sub, mul, div, lt, to_unsigned, to_signed}
 use Rattle.floats.specs.Bytes.{zero_f, byte_f}
-use Rattle.patterns.specs.Kernel.{Target}
+use Rattle.patterns.specs.declared.Target.{Target}
 
 -- `round`: to the nearest whole number, halves away from zero; the sign stays, so that -0.3 gives -0.0
 unfoldable pub round_f : Float → Float

@@ -11,11 +11,13 @@ use Rattle.patterns.specs.Kinds.{is_diffusion}
 use Rattle.drawing.specs.Finished.{finished_bytes}
 use Rattle.candidates.specs.Rooms.{too_many}
 use Rattle.judging.specs.Tiles.{first_over}
-use Rattle.quantize.specs.declared.Quantization.{Quantization}
+use Rattle.std.specs.Prelude.{Result, Ok, Err}
+use Rattle.replies.specs.Refusals.{number_of, Answered, refusal}
+use Rattle.replies.specs.declared.Refusal.{Refusal}
 use Rattle.quantize.specs.Quantize as quantize
 use Rattle.quantize.specs.Quantize.{quantizing, index_bytes, entries}
-use Rattle.dither.specs.declared.Dithered.{Dithered}
-use Rattle.dither.specs.declared.Dithered.TheVariants.{Count, Over, Refused}
+use Rattle.dither.specs.declared.DitherError.{DitherError}
+use Rattle.dither.specs.declared.DitherError.TheVariants.{TileOver, Refused}
 use Rattle.dither.specs.declared.Lengths.{Lengths}
 use Rattle.dither.specs.Mode as mode
 use Rattle.dither.specs.Mode.{dithering, reduced_of, candidate_list, tiles, leaves, places_after, oklab_after}
@@ -23,24 +25,24 @@ use Rattle.float_cells.specs.Arithmetic.{sixteen_times}
 use Rattle.float_cells.specs.Drawn.{drawn_f, error_f}
 
 -- ---- `quantize_pixels`
-pub record QuantizedF (q : quantize.Commission) (indices₀ out₀ : List ℕ) (cells₀ : List Float) (r : Quantization) (indices out : List ℕ)
+pub record QuantizedF (q : quantize.Commission) (indices₀ out₀ : List ℕ) (cells₀ : List Float) (r : Result Unit Refusal) (indices out : List ℕ)
     (cells : List Float) : Type 0 where
-  pub answer : Answers quantize.number_of (quantize.replies q indices₀ out₀ cells₀) quantize.answer_of r
+  pub answer : Answered (quantize.replies q indices₀ out₀ cells₀) tt r
   pub index_buffer :
       indices
-      ≡ after (quantize.number_of r) (index_bytes q.palette (entries q) (quantizing q).reduced (drawn_f (quantizing q)) (quantize.size q)) indices₀
+      ≡ after (number_of r) (index_bytes q.palette (entries q) (quantizing q).reduced (drawn_f (quantizing q)) (quantize.size q)) indices₀
   pub picture :
       out
-      ≡ after (quantize.number_of r) (finished_bytes (quantizing q).normalize (is_seen (quantizing q).reduced) (drawn_f (quantizing q)) (quantize.size q)) out₀
-  pub cell_buffer : cells ≡ after (quantize.number_of r) (error_f (quantizing q) cells₀) cells₀
+      ≡ after (number_of r) (finished_bytes (quantizing q).normalize (is_seen (quantizing q).reduced) (drawn_f (quantizing q)) (quantize.size q)) out₀
+  pub cell_buffer : cells ≡ after (number_of r) (error_f (quantizing q) cells₀) cells₀
 
 -- a result with sixteenths and one with floats: one answer, one picture; sixteen times the floats are the sixteenths, and the floats are these exactly
-pub record SameQuantized (q : quantize.Commission) (r s : Quantization) (indices indices' out out' : List ℕ) (cells : List ℤ) (floats : List Float) : Type 0 where
+pub record SameQuantized (q : quantize.Commission) (r s : Result Unit Refusal) (indices indices' out out' : List ℕ) (cells : List ℤ) (floats : List Float) : Type 0 where
   pub answer : r ≡ s
   pub index_buffer : indices ≡ indices'
   pub picture : out ≡ out'
-  pub cell_buffer : quantize.number_of r ≡ 0 → is_diffusion q.kind ≡ true → map sixteen_times floats ≡ cells
-  pub exact : quantize.number_of r ≡ 0 → is_diffusion q.kind ≡ true → floats ≡ map sixteenths cells
+  pub cell_buffer : number_of r ≡ 0 → is_diffusion q.kind ≡ true → map sixteen_times floats ≡ cells
+  pub exact : number_of r ≡ 0 → is_diffusion q.kind ≡ true → floats ≡ map sixteenths cells
 
 -- ---- `dither_to_mode`
 -- what the caller lends to be written
@@ -79,10 +81,12 @@ over_budget_f q = ltb (tile_over_f q) (tiles q.settings)
 abbrev pub replies_f : mode.Commission → BuffersF → List Reply
 replies_f q b = mode.checks q.settings (lengths_f q b) ++ 7 if too_many (candidate_list q) b.places ∷ 8 if over_budget_f q ∷ []
 
-unfoldable pub answer_f : mode.Commission → ℕ → Dithered
-answer_f q n = cond (eqb n 0) (Count (length (candidate_list q))) (cond (eqb n 8) (Over (tile_over_f q) (length (candidate_list q))) (Refused n))
+unfoldable pub answer_f : mode.Commission → ℕ → Result ℕ DitherError
+answer_f q n =
+    cond (eqb n 0) (Ok (length (candidate_list q)))
+    (Err (cond (eqb n 8) (TileOver (tile_over_f q) (length (candidate_list q))) (Refused (refusal n))))
 
-pub record DitheredToModeF (q : mode.Commission) (was : BuffersF) (r : Dithered) (then : BuffersF) : Type 0 where
+pub record DitheredToModeF (q : mode.Commission) (was : BuffersF) (r : Result ℕ DitherError) (then : BuffersF) : Type 0 where
   pub answer : Answers mode.number_of (replies_f q was) (answer_f q) r
   pub candidate_places : then.places ≡ places_after q was.places (mode.number_of r)
   pub candidate_oklab : then.oklab ≡ oklab_after q was.oklab (mode.number_of r)
@@ -93,7 +97,7 @@ pub record DitheredToModeF (q : mode.Commission) (was : BuffersF) (r : Dithered)
   pub cell_buffer :
       then.cells ≡ leaves (mode.number_of r) (error_f (dithering q) was.cells) (replicate (length was.cells) zero_f) was.cells
 
-pub record SameDithered (q : mode.Commission) (r s : Dithered) (then : mode.Buffers) (then' : BuffersF) : Type 0 where
+pub record SameDithered (q : mode.Commission) (r s : Result ℕ DitherError) (then : mode.Buffers) (then' : BuffersF) : Type 0 where
   pub answer : r ≡ s
   pub candidate_places : then.places ≡ then'.places
   pub candidate_oklab : then.oklab ≡ then'.oklab

@@ -6,7 +6,8 @@ use Rattle.std.specs.Prelude.{ℕ, zero, suc, ◌+◌, ◌*◌, Bool, cond, List
 use Rattle.std.specs.Float.{nan, binary32}
 use Rattle.std.specs.Float.Ieee.{add, mul}
 use Rattle.floats.specs.Bytes.{zero_f}
-use Rattle.patterns.specs.Kernel.{Target, Place, pixel, outside, landing}
+use Rattle.patterns.specs.declared.Target.{Target}
+use Rattle.patterns.specs.Kernel.{Place, pixel, outside, landing}
 use Rattle.diffusion.specs.Diffusion.{Picture}
 use Rattle.float_cells.specs.Arithmetic.{biased_f, residual_f, ratio_f}
 

@@ -18,7 +18,7 @@ use Rattle.color.specs.Color.{same_reduced}
 use Rattle.color.proofs.Same.{same→equal, same_self}
 use Rattle.lists.specs.Different.{Many}
 use Rattle.judging.specs.Tiles.{tile_count, counts_in, colors_in, is_over, first_over, verdict_of, judged_of, JudgedAs}
-use Rattle.judging.specs.declared.Judged.TheVariants.{Fits, Over}
+use Rattle.std.specs.Prelude.{Some, None}
 use Rattle.lists.proofs.DifferentLaws.{Equality, differing_same, many_if, many_only}
 
 equality : Equality same_reduced
@@ -45,17 +45,17 @@ module _ (shown : ℕ → Bool) (color : ℕ → ReducedColor) (w h tw th : ℕ)
       where
         go : (t : Bool) → ltb (first_over shown color w h tw th limit) (tile_count w h tw th) ≡ t
             → First (is_over shown color w h tw th limit) (tile_count w h tw th) (first_over shown color w h tw th limit)
-            → JudgedAs shown color w h tw th limit (cond t (Over (first_over shown color w h tw th limit)) Fits)
+            → JudgedAs shown color w h tw th limit (cond t (Some (first_over shown color w h tw th limit)) None)
         go true e f = let l = ltb-true (first_over shown color w h tw th limit) (tile_count w h tw th) e in (l, f.passes l, f.before)
         go false e f = λ t l. f.before t (lt_of_lt_of_le l (ltb-false (first_over shown color w h tw th limit) (tile_count w h tw th) e))
 
     pub judged_only : Unique (JudgedAs shown color w h tw th limit)
-    judged_only Fits Fits a b = refl
-    judged_only Fits (Over t) a b = absurd (T_not (is_over shown color w h tw th limit t) (a t b.0) b.1)
-    judged_only (Over t) Fits a b = absurd (T_not (is_over shown color w h tw th limit t) (b t a.0) a.1)
-    judged_only (Over t) (Over u) a b = ap Over (first_only (first t a) (first u b))
+    judged_only None None a b = refl
+    judged_only None (Some t) a b = absurd (T_not (is_over shown color w h tw th limit t) (a t b.0) b.1)
+    judged_only (Some t) None a b = absurd (T_not (is_over shown color w h tw th limit t) (b t a.0) a.1)
+    judged_only (Some t) (Some u) a b = ap Some (first_only (first t a) (first u b))
       where
-        first : (t : ℕ) → JudgedAs shown color w h tw th limit (Over t) → First (is_over shown color w h tw th limit) (tile_count w h tw th) t
+        first : (t : ℕ) → JudgedAs shown color w h tw th limit (Some t) → First (is_over shown color w h tw th limit) (tile_count w h tw th) t
         first t a = record { inside = omega (arith, a.0); before = a.2; passes = λ _. a.1 }
 
 -- two pictures of which the same pixels are not transparent, with the same colours

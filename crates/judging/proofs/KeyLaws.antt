@@ -1,23 +1,24 @@
--- Numbers for colours: two are equal exactly if their colours are (`same_key`), so a number joins the others exactly if its colour does
--- (`colors_with`). A search among the first numbers. Assumes nothing.
+-- Numbers for colours: two are equal exactly if their colours are (`same_key`), so a number is among others exactly if its colour is among theirs
+-- (`any_has`), and one that is not joins them as its colour does (`joins`). Assumes nothing.
 use mathlib.Core.Path.{◌≡◌, refl, sym, ap, ◌∙◌, subst}
-use mathlib.Core.Bool.{Bool, true, false, cond}
-use mathlib.Core.List.{List, [], ◌∷◌, ◌++◌, map, map-append}
-use Prim.Native.Nat.{ℕ, suc, ◌+◌, ◌*◌, ◌/◌, ◌%◌, ◌≤◌, ◌<◌}
+use mathlib.Core.Bool.{Bool, true, false, cond, ◌||◌}
+use mathlib.Core.List.{List, [], ◌∷◌, map, map-append}
+use Prim.Native.Nat.{ℕ, ◌+◌, ◌*◌, ◌/◌, ◌%◌, ◌<◌}
 use native.Mathlib.Nat.{div-add-mod}
 use native.Mathlib.Numerals.{add-one}
 use native.Mathlib.Omega.{arith}
-use borrow.Author.Tests.{eqb-true, eqb-false, eq-eqb, ne_eqb}
+use borrow.Author.Tests.{eqb-true, eqb-false}
+use Rattle.std.specs.List.{list_any}
 use lib.Dec.{eqb}
-use lib.ListN.{length, take, drop, set, get_or, length-map, length-set, drop_of_length-le}
-use lib.Seq.{take-suc-set, length-take-le, drop-cons, get_or-take}
+use lib.ListN.{length, take, set}
+use lib.Seq.{take-suc-set}
 use Rattle.lists.proofs.Bools.{clash}
 use Rattle.color.specs.declared.Rgba8888.{Rgba8888}
 use Rattle.color.specs.declared.ReducedColor.{ReducedColor}
 use Rattle.color.specs.Color.{same_reduced, rgba}
 use Rattle.color.proofs.Same.{same→equal, same_self}
 use Rattle.lists.specs.Different.{has, add_new}
-use Rattle.judging.specs.Keys.{color_with_key, colors_of, count_with, keys_with, Turned}
+use Rattle.judging.specs.Keys.{color_with_key}
 
 -- ---- colours as numbers
 -- a number from its lowest byte and what stands above it
@@ -69,77 +70,29 @@ unfolding has
 has_color key [] = refl
 has_color key (k ∷ keys) = rw (same_key, has_color key keys)
 
--- ---- one number more
-module _ (key : ℕ) (keys : List ℕ) (n : ℕ) (h : n < length keys) where
-  pub colors_with : colors_of (keys_with key keys n) (count_with key keys n) ≡ add_new same_reduced (color_with_key key) (colors_of keys n)
-  unfolding add_new keys_with count_with
-  colors_with = rw has_color (go (has eqb key (take n keys)))
-    where
-      go : (t : Bool) → map color_with_key (take (cond t n (n + 1)) (cond t keys (set keys n key))) ≡ cond t (map color_with_key (take n keys))
-          (map color_with_key (take n keys) ++ (color_with_key key ∷ []))
-      go true = refl
-      go false =
-          ap (λ (m : ℕ). map color_with_key (take m (set keys n key))) (add-one n)
-          ∙ ap (map color_with_key) (take-suc-set keys n key h)
-          ∙ map-append color_with_key (take n keys) (key ∷ [])
+pub any_has : (key : ℕ) (keys : List ℕ) → list_any (λ k. eqb k key) keys ≡ has same_reduced (color_with_key key) (map color_with_key keys)
+unfolding has
+any_has key keys = go keys ∙ sym (has_color key keys)
+  where
+    either : (t : Bool) (rest : Bool) → (t || rest) ≡ cond t true rest
+    either true rest = refl
+    either false rest = refl
 
-  pub long_with : length (keys_with key keys n) ≡ length keys
-  unfolding keys_with
-  long_with = go (has eqb key (take n keys))
-    where
-      go : (t : Bool) → length (cond t keys (set keys n key)) ≡ length keys
-      go true = refl
-      go false = length-set keys n key
+    go : (ks : List ℕ) → list_any (λ k. eqb k key) ks ≡ has eqb key ks
+    go [] = refl
+    go (k ∷ ks) = rw (go ks) (either (eqb k key) (has eqb key ks))
 
-  pub count_with_lem : count_with key keys n ≤ n + 1
-  unfolding count_with
-  count_with_lem = go (has eqb key (take n keys))
-    where
-      go : (t : Bool) → cond t n (n + 1) ≤ n + 1
-      go true = omega arith
-      go false = omega arith
+-- one that is not goes behind them
+pub joins : (keys : List ℕ) (n key : ℕ) {color : ReducedColor} → color_with_key key ≡ color → n < length keys
+    → has same_reduced (color_with_key key) (map color_with_key (take n keys)) ≡ false
+    → map color_with_key (take (n + 1) (set keys n key)) ≡ add_new same_reduced color (map color_with_key (take n keys))
+unfolding add_new
+joins keys n key {color} same h e =
+    rw (← same, e, add-one) (ap (map color_with_key) (take-suc-set keys n key h) ∙ map-append color_with_key (take n keys) (key ∷ []))
 
-  -- what is put is what the definitions say
-  pub with_old : has eqb key (take n keys) ≡ true → (n ≡ count_with key keys n) × (keys ≡ keys_with key keys n)
-  unfolding count_with keys_with
-  with_old e = rw e (refl, refl)
-
-  pub with_new : has eqb key (take n keys) ≡ false → (n + 1 ≡ count_with key keys n) × (set keys n key ≡ keys_with key keys n)
-  unfolding count_with keys_with
-  with_new e = rw e (refl, refl)
-
--- ---- a pixel's turn
-count_is : (keys : List ℕ) (n : ℕ) → n ≤ length keys → n ≡ length (colors_of keys n)
-count_is keys n h = sym (length-map (take n keys) color_with_key ∙ length-take-le n keys h)
-
-module _ {shown : Bool} {color : ReducedColor} {keys : List ℕ} {n : ℕ} (h : n < length keys) where
-  pub turned_shown : (key : ℕ) {keys' : List ℕ} {m : ℕ} → shown ≡ true → color_with_key key ≡ color → (m ≡ count_with key keys n) × (keys' ≡ keys_with key keys n)
-      → Turned shown color keys n keys' m
-  turned_shown key {keys'} {m} o e (em, ek) =
-      let long : length keys' ≡ length keys = ap length ek ∙ long_with key keys n h in
-      record {
-        colors = rw (ek, em, o, ← e) (colors_with key keys n h);
-        count = count_is keys' m (omega (arith, count_with_lem key keys n h));
-        same = long;
-      }
-
-  pub turned_not : shown ≡ false → Turned shown color keys n keys n
-  turned_not o = record { colors = rw o; count = count_is keys n (omega arith); same = refl }
-
--- ---- a search among the first n numbers: whether the number is among those from position j on
-module _ (key : ℕ) (keys : List ℕ) (n j : ℕ) (h : n ≤ length keys) where
-  -- what stands there
-  front : j < n → drop j (take n keys) ≡ get_or keys j 0 ∷ drop (suc j) (take n keys)
-  front l = drop-cons (take n keys) j 0 (omega (arith, length-take-le n keys h)) ∙ rw (get_or-take n keys j 0 l)
-
-  pub key_here : j < n → get_or keys j 0 ≡ key → has eqb key (drop j (take n keys)) ≡ true
-  unfolding has
-  key_here l e = rw (front l, eq-eqb (get_or keys j 0) key e)
-
-  pub key_later : j < n → (get_or keys j 0 ≡ key → ⊥) → has eqb key (drop j (take n keys)) ≡ has eqb key (drop (j + 1) (take n keys))
-  unfolding has
-  key_later l e = rw (add-one j, front l, ne_eqb (get_or keys j 0) key e)
-
-  pub key_missed : n ≤ j → has eqb key (drop j (take n keys)) ≡ false
-  unfolding has
-  key_missed l = let short : length (take n keys) ≤ j = omega (arith, length-take-le n keys h) in rw (drop_of_length-le (take n keys) short)
+-- one that is there changes nothing
+pub joins_not : (keys : List ℕ) (n key : ℕ) {color : ReducedColor} → color_with_key key ≡ color
+    → has same_reduced (color_with_key key) (map color_with_key (take n keys)) ≡ true
+    → map color_with_key (take n keys) ≡ add_new same_reduced color (map color_with_key (take n keys))
+unfolding add_new
+joins_not keys n key {color} same e = rw (← same, e) refl

@@ -1,11 +1,10 @@
 -- Where tiles lie: how many there are, and that the pixels of a tile are those between its edges (`Inside`), by the columns and rows of the
 -- picture. The tile at a row and a column of tiles is `Place`. Assumes nothing.
-use mathlib.Core.Path.{◌≡◌, sym, ap, ◌∙◌, subst}
+use mathlib.Core.Path.{◌≡◌, refl, sym, ap, ◌∙◌, subst}
 use Prim.Native.Nat.{ℕ, ◌+◌, ◌-◌, ◌*◌, ◌/◌, ◌%◌, ◌≤◌, ◌<◌}
-use native.Mathlib.Nat.{add-zero, mul_comm, mul-suc, add-mul, one-mul, mul-le-mul, mul-le-mul_left, mul-le-mul_right, div-le_self, div-mul-le_self}
+use native.Mathlib.Nat.{add-zero, mul-suc, add-mul, one-mul, mul-le-mul, mul-le-mul_left, mul-le-mul_right, div-le_self, div-mul-le_self}
 use native.Mathlib.Nat.{lt-div-mul-add, div-lt_iff_lt-mul, div-eq_of_lt, div-eq_of_lt-le, mul-add-div}
 use native.Mathlib.Nat.{mul-add-div_right, mul-add-mod_self_left, mul-add-mod_self_right, mod-eq_of_lt, mod-lt}
-use native.Mathlib.Numerals.{add-one}
 use native.Mathlib.Omega.{arith}
 use Rattle.judging.specs.Tiles.{tiles_over, tile_count, tile_of}
 
@@ -13,19 +12,12 @@ use Rattle.judging.specs.Tiles.{tiles_over, tile_count, tile_of}
 pub next : (n k : ℕ) → (n + 1) * k ≡ n * k + k
 next n k = add-mul n 1 k ∙ ap (λ (m : ℕ). n * k + m) (one-mul k)
 
-pub next_left : (k n : ℕ) → k * (n + 1) ≡ k * n + k
-next_left k n = ap (λ (m : ℕ). k * m) (add-one n) ∙ mul-suc k n
-
 pub product : (a b : ℕ) → a ≤ 8192 → b ≤ 8192 → a * b ≤ 67108864
 product a b p q = mul-le-mul p q
 
 -- one row, or one row of tiles, ends before the next begins
 pub ends : (n m k : ℕ) → n < m → n * k + k ≤ m * k
 ends n m k h = let a : (n + 1) * k ≤ m * k = mul-le-mul_right k (omega arith) in omega (arith, next n k)
-
--- a pixel's four bytes are among the picture's
-pub within : (y x w h : ℕ) → y < h → x < w → 4 * (y * w + x) + 3 < 4 * (w * h)
-within y x w h p q = omega (arith, ends y h w p, mul_comm w h)
 
 -- ---- how many tiles
 module _ (size side : ℕ) where
@@ -117,3 +109,13 @@ module _ {w h tw th row column tile : ℕ} (p : Place w h tw th row column tile)
       let q : i / w / th ≡ row = div-eq_of_lt-le th s.top bottom in
       let c : i % w / tw ≡ column = div-eq_of_lt-le tw s.left right in
       rw (q, c) (sym p.number)
+
+-- the tile at a row and a column that are below the numbers of rows and columns
+pub place : {w h tw th row column across down : ℕ} → 1 ≤ tw → 1 ≤ th → across ≡ tiles_over w tw → down ≡ tiles_over h th → row < down → column < across
+    → Place w h tw th row column (tiles_over w tw * row + column)
+place {row = row} {column = column} wide high a d r c =
+    record { some_wide = wide; some_high = high; row_below = subst (λ (n : ℕ). row < n) d r; column_below = subst (λ (n : ℕ). column < n) a c; number = refl }
+
+pub tile_few : {w h tw th row column tile : ℕ} → Place w h tw th row column tile → w ≤ 4096 → tw ≤ 4096 → h ≤ 4096 → th ≤ 4096 → tile < 67108864
+tile_few {w} {h} {tw} {th} p wide tile_wide high tile_high =
+    omega (arith, tile_below p, product _ _ (few w tw wide tile_wide) (few h th high tile_high))

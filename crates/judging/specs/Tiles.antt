@@ -2,13 +2,11 @@
 -- Written from document 01, "Choosing colours": "Tiles are taken row by row; .. Edge tiles are cut short. A tile is over its limit if its
 -- non-transparent pixels have more different chosen reduced colours than that", and reply 8: "first tile's number, row by row from 0".
 -- Pixels are numbered row by row: pixel i of a picture of width w stands in column i % w and row i / w.
-use Rattle.std.specs.Prelude.{◌≡◌, Bool, cond, not, ◌&&◌, List, ℕ, ◌+◌, ◌-◌, ◌*◌, ◌/◌, ◌%◌, ◌≤◌, ◌<◌, T, ltb, eqb, length}
+use Rattle.std.specs.Prelude.{Bool, cond, not, ◌&&◌, List, ℕ, ◌+◌, ◌-◌, ◌*◌, ◌/◌, ◌%◌, ◌<◌, T, ltb, eqb, length, Option, Some, None}
 use Rattle.lists.specs.First.{first_that}
 use Rattle.color.specs.declared.ReducedColor.{ReducedColor}
 use Rattle.color.specs.Color.{same_reduced}
 use Rattle.lists.specs.Different.{differing}
-use Rattle.judging.specs.declared.Judged.{Judged}
-use Rattle.judging.specs.declared.Judged.TheVariants.{Fits, Over}
 
 -- how many tiles of a side cover a size; the last may be cut short
 unfoldable pub tiles_over : ℕ → ℕ → ℕ
@@ -26,9 +24,9 @@ tile_of w tw th i = tiles_over w tw * (i / w / th) + i % w / tw
 unfoldable pub counts_in : (ℕ → Bool) → ℕ → ℕ → ℕ → ℕ → ℕ → Bool
 counts_in shown w tw th t i = eqb (tile_of w tw th i) t && shown i
 
--- the answer from the first tile that is over its limit, or the number of tiles where none is
-unfoldable pub verdict_of : ℕ → ℕ → Judged
-verdict_of first tiles = cond (ltb first tiles) (Over first) Fits
+-- the answer from the first tile that is over its limit, or the number of tiles where none is: that tile, or none
+unfoldable pub verdict_of : ℕ → ℕ → Option ℕ
+verdict_of first tiles = cond (ltb first tiles) (Some first) None
 
 -- of a picture: which pixels are not transparent (of `reduced`, its reduced colours: `is_seen reduced`), their chosen reduced colours, its width and
 -- height, and a tile's
@@ -46,22 +44,10 @@ module _ (shown : ℕ → Bool) (color : ℕ → ReducedColor) (w h tw th : ℕ)
   first_over limit = first_that (is_over limit) (tile_count w h tw th)
 
   -- what `judge` answers
-  unfoldable pub judged_of : ℕ → Judged
+  unfoldable pub judged_of : ℕ → Option ℕ
   judged_of limit = verdict_of (first_over limit) (tile_count w h tw th)
 
   -- no tile is over; or that one is and no earlier one: what `judged_of` is, and all that it is (proofs/JudgedLaws)
-  abbrev pub JudgedAs : ℕ → Judged → Type 0
-  JudgedAs limit Fits = (t : ℕ) → t < tile_count w h tw th → T (not (is_over limit t))
-  JudgedAs limit (Over t) = (t < tile_count w h tw th) × T (is_over limit t) × ((k : ℕ) → k < t → T (not (is_over limit k)))
-
--- what `judge` asks of its caller: whole buffers, and the bounds of sides and limit
-pub record Judgeable (colors pixels : List ℕ) (w h tw th limit : ℕ) : Type 0 where
-  pub chosen : length colors ≡ 4 * (w * h)
-  pub lent : length pixels ≡ 4 * (w * h)
-  pub wide : w ≤ 4096
-  pub high : h ≤ 4096
-  pub some_wide : 1 ≤ tw
-  pub tile_wide : tw ≤ 4096
-  pub some_high : 1 ≤ th
-  pub tile_high : th ≤ 4096
-  pub few : limit ≤ 256
+  abbrev pub JudgedAs : ℕ → Option ℕ → Type 0
+  JudgedAs limit None = (t : ℕ) → t < tile_count w h tw th → T (not (is_over limit t))
+  JudgedAs limit (Some t) = (t < tile_count w h tw th) × T (is_over limit t) × ((k : ℕ) → k < t → T (not (is_over limit k)))

@@ -1,27 +1,16 @@
-// Lists, whatever they hold. The code sets lent buffers to zero, as document 01's replies 7 and 8 and its error cells
-// ask; the definitions and laws on lists that every picture needs stand in specs/ and proofs/.
+// Lists, whatever they hold. The code sets lent buffers to one value, as document 01's replies 7 and 8 and its error cells
+// ask of 0; the definitions and laws on lists that every picture needs stand in specs/ and proofs/.
 #![tactic(auto)]
 
-ghost use Rattle.std.specs.Prelude.{◌≡◌, length, replicate, pos};
+ghost use Rattle.std.specs.Prelude.{◌≡◌, length, replicate};
 
-// Sets every byte to 0.
-pub fn zero_bytes(s: &mut [u8])
-    ensures { s.new ≡ replicate (length s.old) 0 }
+// Sets every element to one value.
+//
+// Kept beside the library's `fill`, which asks for a clone that cannot fail: `T: Copy` alone does not say that.
+pub fn fill<T: Copy>(s: &mut [T], value: T)
+    ensures { s.new ≡ replicate (length s.old) value }
 {
-    let mut i: usize = 0;
-    while i < s.len() {
-        s[i] = 0;
-        i += 1;
-    }
-}
-
-// Sets every signed 16-bit number to 0.
-pub fn zero_i16s(numbers: &mut [i16])
-    ensures { numbers.new ≡ replicate (length numbers.old) (pos 0) }
-{
-    let mut i: usize = 0;
-    while i < numbers.len() {
-        numbers[i] = 0;
-        i += 1;
+    for x in s.iter_mut() {
+        *x = value;
     }
 }

@@ -19,8 +19,7 @@ use Rattle.lookup.specs.declared.BracketAt.{BracketAt}
 use Rattle.lookup.specs.declared.Bracket.{Bracket}
 use Rattle.lookup.specs.declared.Choice.{Choice}
 use Rattle.lookup.specs.declared.Two.{Two}
-use Rattle.lookup.specs.declared.Second.{Second}
-use Rattle.lookup.specs.declared.Second.TheVariants.{At, Nothing}
+use Rattle.std.specs.Prelude.{Option, Some, None}
 use Rattle.lookup.proofs.TwoLaws.{first_inside, second_inside, one_alone}
 
 -- ---- what `bracket_with` answers
@@ -37,26 +36,18 @@ module _ (oklab : ℕ → Oklab) (a b : ℕ) (c1 c2 c : NormalizedColor) (p q : 
   unfolding bracket_with
   darker e = rw (test false e) (λ i. record { dark = b; light = a; ratio = sub binary32 one_f (ratio i) })
 
--- ---- what `bracket_positions` answers
+-- ---- what `bracket_of_two` answers of the nearest two
 module _ (cs : Candidates) (width : ℕ) (o : Oklab) (c : NormalizedColor) where
-  module _ (two : Two) (e : two ≡ nearest_two_of cs width o c) (r : BracketAt) where
-    by_second : (s : Second) → two.second ≡ s → r ≡ bracket_two cs.oklab cs.normalized c two.first s → r ≡ bracket_at_of cs width o c
-    unfolding bracket_at_of
-    by_second s q h =
-        h ∙ ap (bracket_two cs.oklab cs.normalized c two.first) (sym q)
-        ∙ ap (λ (t : Two). bracket_two cs.oklab cs.normalized c t.first t.second) e
-
-    pub solid_is : two.second ≡ Nothing → r ≡ solid_at two.first → r ≡ bracket_at_of cs width o c
-    solid_is q h = by_second Nothing q h
-
-    pub pair_is : (b : ℕ) → two.second ≡ At b → (c1 c2 : NormalizedColor) → c1 ≡ cs.normalized two.first → c2 ≡ cs.normalized b
-        → r ≡ bracket_with cs.oklab two.first b c1 c2 c → r ≡ bracket_at_of cs width o c
-    pair_is b q c1 c2 p₁ p₂ h = by_second (At b) q (h ∙ (λ i. bracket_with cs.oklab two.first b (p₁ i) (p₂ i) c))
+  pub bracket_is : (two : Two) → two ≡ nearest_two_of cs width o c → (r : BracketAt) → r ≡ bracket_two cs.oklab cs.normalized c two.first two.second
+      → r ≡ bracket_at_of cs width o c
+  unfolding bracket_at_of
+  bracket_is two e r h = h ∙ ap (λ (t : Two). bracket_two cs.oklab cs.normalized c t.first t.second) e
 
   module _ (positive : 0 < cs.count) where
     -- one entry alone: the bracket is solid
     pub one_solid : cs.count ≡ 1 → bracket_at_of cs width o c ≡ solid_at (nearest_two_of cs width o c).first
-    one_solid h = sym (solid_is (nearest_two_of cs width o c) refl (solid_at (nearest_two_of cs width o c).first) (one_alone cs width o c positive h) refl)
+    unfolding bracket_at_of
+    one_solid h = ap (bracket_two cs.oklab cs.normalized c (nearest_two_of cs width o c).first) (one_alone cs width o c positive h)
 
     -- dark and light are entries
     pub bracket_inside : ((k : ℕ) → k < cs.count → T (all_in_range (cs.oklab k)))
@@ -78,10 +69,10 @@ module _ (cs : Candidates) (width : ℕ) (o : Oklab) (c : NormalizedColor) where
         ends true b x y B = (A, B)
         ends false b x y B = (B, A)
 
-        go : (s : Second) → ((b : ℕ) → s ≡ At b → b < cs.count)
+        go : (s : Option ℕ) → ((b : ℕ) → s ≡ Some b → b < cs.count)
             → ((bracket_two cs.oklab cs.normalized c a s).dark < cs.count) × ((bracket_two cs.oklab cs.normalized c a s).light < cs.count)
-        go Nothing h = (A, A)
-        go (At b) h = ends (le (cs.oklab a).l (cs.oklab b).l) b _ _ (h b refl)
+        go None h = (A, A)
+        go (Some b) h = ends (le (cs.oklab a).l (cs.oklab b).l) b _ _ (h b refl)
 
 -- the same of an answer that is equal to it
 pub bracket_entries : (cs : Candidates) (width : ℕ) (o : Oklab) (c : NormalizedColor) (at : BracketAt) → at ≡ bracket_at_of cs width o c → 0 < cs.count

@@ -1,22 +1,24 @@
--- Flat lists: an accepted one has from 1 to 65,536 entries, bytes and floats for all of them, and every component from -2 to 2 (`accepted`); what the
--- tests of `list_refusal` say. Assumes nothing.
-use mathlib.Core.Path.{◌≡◌}
+-- Flat lists: an accepted one has from 1 to 65,536 entries, bytes and floats for all of them, and every component from -2 to 2 (`accepted`); how the
+-- components are looked at (`looked_all`). Assumes nothing.
+use mathlib.Core.Path.{◌≡◌, refl, sym}
 use mathlib.Core.List.{List}
-use mathlib.Core.Bool.{Bool, true, false, not, ◌&&◌}
+use mathlib.Core.Bool.{Bool, true, false, not, ◌&&◌, ◌||◌}
 use Prim.Native.Nat.{ℕ, ◌+◌, ◌*◌, ◌/◌, ◌%◌, ◌≤◌, ◌<◌}
+use native.Mathlib.Nat.{not-suc-le-zero, le_refl}
 use native.Mathlib.Omega.{arith}
+use borrow.Author.Count.{below_more}
 use borrow.Author.Tests.{eqb-true, ltb-true, ltb-false, lt-ltb, le-ltb, not-true, not-false}
 use lib.Dec.{T, eqb, ltb}
 use lib.ListN.{length, get_or}
 use lib.Ieee.{Float, nan}
 use lib.Ieee.Fits.{and_i}
 use Rattle.lists.specs.First.{first_that}
-use Rattle.lists.proofs.Bools.{and_split}
-use Rattle.lists.proofs.FirstLaws.{first_is}
+use Rattle.lists.proofs.Bools.{and_split, holds, fails, clash}
+use Rattle.lists.proofs.FirstLaws.{first_is, first_below, search_missed}
 use Rattle.replies.proofs.ReplyLaws.{reply_none}
 use Rattle.color.specs.Oklab.{in_range, all_in_range, oklab_at}
 use Rattle.shortlist.specs.Candidates.{RangedList}
-use Rattle.lookup.specs.Lists.{lengths_fit, count_fits, first_outside, list_replies, list_number}
+use Rattle.lookup.specs.Lists.{lengths_fit, count_fits, first_outside, inside_at, list_replies, list_number}
 
 -- ---- an accepted list
 pub record Accepted (reduced normalized : List ℕ) (oklab : List Float) : Type 0 where
@@ -69,22 +71,32 @@ accepted reduced normalized oklab e =
       };
     }
 
--- ---- what the tests of `list_refusal` say
-module _ (reduced normalized : List ℕ) (oklab : List Float) (l : Bool) (L : l ≡ lengths_fit (length reduced) (length normalized) (length oklab)) where
-  pub refused_lengths : not l ≡ true → 3 ≡ list_number reduced normalized oklab
-  unfolding list_number
-  refused_lengths e = rw (← L, e)
+-- ---- how the components are looked at
+-- what is said of the first i components: whether one is outside
+pub record Looked (xs : List Float) (i : ℕ) (t : Bool) : Type 0 where
+  pub some : t ≡ true → (k : ℕ) × (k < i) × T (not (inside_at xs k))
+  pub none : t ≡ false → (k : ℕ) → k < i → T (not (not (inside_at xs k)))
 
-  module _ (e : not l ≡ false) (n : Bool) (N : n ≡ count_fits (length reduced / 4)) where
-    pub refused_count : not n ≡ true → 4 ≡ list_number reduced normalized oklab
-    unfolding list_number
-    refused_count f = rw (← L, e, ← N, f)
+pub looked_none : (xs : List Float) → Looked xs 0 false
+looked_none xs = record { some = λ e. absurd (clash e refl); none = λ e k h. absurd (not-suc-le-zero h) }
 
-    module _ (f : not n ≡ false) (k : ℕ) (K : k ≡ first_outside oklab) where
-      pub refused_range : k < length oklab → 6 ≡ list_number reduced normalized oklab
-      unfolding list_number
-      refused_range h = rw (← L, e, ← N, f, ← K, lt-ltb k (length oklab) h)
+pub looked_more : (xs : List Float) (i : ℕ) (t : Bool) → Looked xs i t → Looked xs (i + 1) (t || not (inside_at xs i))
+looked_more xs i true h = record { some = λ e. let o = h.some refl in (o.0, omega (arith, o.1), o.2); none = λ e. absurd (clash refl e) }
+looked_more xs i false h = go (not (inside_at xs i)) refl
+  where
+    go : (b : Bool) → not (inside_at xs i) ≡ b → Looked xs (i + 1) b
+    go true e = record { some = λ _. (i, omega arith, holds e); none = λ q. absurd (clash refl q) }
+    go false e = record { some = λ q. absurd (clash q refl); none = λ _. below_more (λ (k : ℕ). T (not (not (inside_at xs k)))) i (h.none refl) (fails e) }
 
-      pub refused_none : length oklab ≤ k → 0 ≡ list_number reduced normalized oklab
-      unfolding list_number
-      refused_none h = rw (← L, e, ← N, f, ← K, le-ltb k (length oklab) h)
+pub looked_all : (xs : List Float) (t : Bool) → Looked xs (length xs) t → t ≡ ltb (first_outside xs) (length xs)
+unfolding first_outside
+looked_all xs true h =
+    let test : ℕ → Bool = λ k. not (inside_at xs k) in
+    let o = h.some refl in
+    let l : first_that test (length xs) ≤ o.0 = first_below (first_is test (length xs)) o.0 o.2 in
+    sym (lt-ltb (first_that test (length xs)) (length xs) (omega (arith, l, o.1)))
+looked_all xs false h =
+    let test : ℕ → Bool = λ k. not (inside_at xs k) in
+    let n : ℕ = length xs in
+    let m : n ≡ first_that test n = search_missed (record { within = le_refl n; none = h.none refl }) (le_refl n) in
+    sym (le-ltb (first_that test n) n (omega (arith, m)))

@@ -43,8 +43,7 @@ use Rattle.lookup.specs.Positions.{Alike, first_equal, FirstOfColor, Takes, Ends
 use Rattle.lookup.specs.declared.BracketAt.{BracketAt}
 use Rattle.lookup.specs.declared.Bracket.{Bracket}
 use Rattle.lookup.specs.declared.Choice.{Choice}
-use Rattle.lookup.specs.declared.Second.{Second}
-use Rattle.lookup.specs.declared.Second.TheVariants.{At, Nothing}
+use Rattle.std.specs.Prelude.{Option, Some, None}
 use Rattle.lookup.proofs.SecondLaws.{those_in, second_in_lem}
 use Rattle.lookup.proofs.TwoLaws.{second_inside}
 use Rattle.lookup.proofs.BracketLaws.{bracket_inside}
@@ -88,20 +87,20 @@ those_ordered before p (x ∷ ks) o = go (p x) (those_ordered before p ks o.1)
     go false r = r
 
 -- no member that is ranked before the second passes as it does and errs as it does
-second_earliest : (d : ℕ → Float) (p : ℕ → Bool) (e : ℕ → Float) (ks : List ℕ) → Ordered (ranks_before d) ks → (j b : ℕ) → second_of p e ks ≡ At b → In j ks
+second_earliest : (d : ℕ → Float) (p : ℕ → Bool) (e : ℕ → Float) (ks : List ℕ) → Ordered (ranks_before d) ks → (j b : ℕ) → second_of p e ks ≡ Some b → In j ks
     → T (ranks_before d j b) → p j ≡ p b → e j ≡ e b → ⊥
 unfolding least_among
 second_earliest d p e ks o j b s i t passes errs =
     go (those p ks) ks s (those_ordered (ranks_before d) p ks o) o (λ h. in_those p ks j i (passes ∙ (those_in p ks b h).1)) i
   where
-    at : (u : ℕ) → At u ≡ At b → u ≡ b
+    at : (u : ℕ) → Some u ≡ Some b → u ≡ b
     at u h = cc
 
     earlier : (ks : List ℕ) → Ordered (ranks_before d) ks → (r : ℕ) → r < length ks → In j ks → get_or ks r 0 ≡ b → (i : ℕ) × (i < r) × (get_or ks i 0 ≡ j)
     earlier ks o r l i q =
         ordered_earlier (ranks_before d) 0 ks (λ x y _ _. before_asymmetric d x y) o r l j i (subst (λ (u : ℕ). T (ranks_before d j u)) (sym q) t)
 
-    go : (qs ks : List ℕ) → second_in e qs ks ≡ At b → Ordered (ranks_before d) qs → Ordered (ranks_before d) ks → (In b qs → In j qs) → In j ks → ⊥
+    go : (qs ks : List ℕ) → second_in e qs ks ≡ Some b → Ordered (ranks_before d) qs → Ordered (ranks_before d) ks → (In b qs → In j qs) → In j ks → ⊥
     go (q ∷ qs) ks h o _ same i =
         let f : ℕ → Float = λ i. e (get_or (q ∷ qs) i 0) in
         let n : ℕ = length (q ∷ qs) in
@@ -138,7 +137,7 @@ module _ (cs : Candidates) (positive : 0 < cs.count) (range : (k : ℕ) → k < 
 
   module _ (width : ℕ) (o : Oklab) (c : NormalizedColor) where
     -- ---- the second: an earlier twin would be in the shortlist and stand before it there, pass as it does and have its error
-    pub second_first : (b : ℕ) → (nearest_two_of cs width o c).second ≡ At b → (cs.reduced b ≡ cs.reduced (nearest_two_of cs width o c).first → ⊥)
+    pub second_first : (b : ℕ) → (nearest_two_of cs width o c).second ≡ Some b → (cs.reduced b ≡ cs.reduced (nearest_two_of cs width o c).first → ⊥)
         → FirstOfColor cs b
     unfolding nearest_two_of
     second_first b s differ = record { inside = B; first = λ j l e. no_twin j (omega (arith, B)) l e }
@@ -198,10 +197,10 @@ module _ (cs : Candidates) (positive : 0 < cs.count) (range : (k : ℕ) → k < 
                 (subst (λ (k : Oklab). T (le (cs.oklab a).l k.l)) (sym (alike.oklab b a B A.inside e))
                 (at_most_self 2 (cs.oklab a).l (all_in_range_lem (cs.oklab a) (range a A.inside)).l))
 
-        go : (s : Second) → ((b : ℕ) → s ≡ At b → b < cs.count) → ((b : ℕ) → s ≡ At b → (cs.reduced b ≡ cs.reduced a → ⊥) → FirstOfColor cs b)
+        go : (s : Option ℕ) → ((b : ℕ) → s ≡ Some b → b < cs.count) → ((b : ℕ) → s ≡ Some b → (cs.reduced b ≡ cs.reduced a → ⊥) → FirstOfColor cs b)
             → Firsts (bracket_two cs.oklab cs.normalized c a s)
-        go Nothing inside first = (A, λ _. A)
-        go (At b) inside first = ends (le (cs.oklab a).l (cs.oklab b).l) b _ _ refl (inside b refl) (first b refl)
+        go None inside first = (A, λ _. A)
+        go (Some b) inside first = ends (le (cs.oklab a).l (cs.oklab b).l) b _ _ refl (inside b refl) (first b refl)
 
 -- ---- what is taken: the first entry of its colour
 module _ (cs : Candidates) (positive : 0 < cs.count) (range : (k : ℕ) → k < cs.count → T (all_in_range (cs.oklab k))) where

@@ -4,14 +4,13 @@
 use mathlib.Core.Path.{◌≡◌, refl, sym, ap, ◌∙◌, subst}
 use mathlib.Core.Logic.{◌⊎◌, inl, inr}
 use mathlib.Core.List.{List, [], ◌∷◌, ◌++◌}
-use mathlib.Core.Bool.{Bool, true, false, cond, ◌||◌}
-use Prim.Native.Nat.{ℕ, zero, suc, ◌+◌, ◌≤◌, ◌<◌}
-use native.Mathlib.Nat.{not-suc-le-zero, le_antisymm, le_refl}
+use mathlib.Core.Bool.{Bool, true, false, cond}
+use Prim.Native.Nat.{ℕ, ◌+◌, ◌<◌}
 use native.Mathlib.Numerals.{add-one}
 use native.Mathlib.Omega.{arith}
-use lib.Dec.{T, eqb}
+use lib.Dec.{T}
 use lib.ListN.{length, get_or, take, length-append, get_or-append}
-use lib.Seq.{take-suc, take-take, get_or-take, length-take-le, get_or-append-add}
+use lib.Seq.{take-suc, get_or-append-add}
 use lib.Ieee.{Float, binary32, lt, fits}
 use lib.Ieee.Fits.{add-fits}
 use Rattle.floats.specs.Bytes.{dot}
@@ -25,9 +24,8 @@ use Rattle.mixing.specs.Lerp.{share_of, lerp_of, between, mix_residual, Bytes}
 use Rattle.mixing.proofs.Between.{between_within}
 use Rattle.mixing.proofs.Residuals.{residual_upto}
 use Rattle.lookup.specs.Second.{those, least_among, second_in, second_of, IsSecondIn, mixable, mix_error, Held, BestBeside, improved, weighed}
-use Rattle.lookup.specs.declared.Best.{Best}
-use Rattle.lookup.specs.declared.Second.{Second}
-use Rattle.lookup.specs.declared.Second.TheVariants.{At, Nothing}
+use Rattle.lookup.specs.declared.seconds.Mix.{Mix}
+use Rattle.std.specs.Prelude.{Option, Some, None, slice_get}
 use Rattle.shortlist.proofs.NearestLaws.{by_lt}
 
 -- ---- one entry more in `least_among`
@@ -64,22 +62,21 @@ module _ (e : ℕ → Float) where
 
 -- ---- what the loop holds
 
+-- entry k with its error
+abbrev mix : (ℕ → Float) → ℕ → Mix
+mix e k = record { error = e k; position = k }
+
 -- `improved` takes one entry more into account
-held_more : (e : ℕ → Float) (best : Best) (ks : List ℕ) (k : ℕ) → Held e best ks → Held e (improved best k true (e k)) (ks ++ k ∷ [])
+held_more : (e : ℕ → Float) (best : Option Mix) (ks : List ℕ) (k : ℕ) → Held e best ks → Held e (improved best k true (e k)) (ks ++ k ∷ [])
 unfolding improved
-held_more e best [] k h =
-    subst (λ (b : ℕ). Held e (cond (eqb b 0 || lt (e k) best.error) (record { found = 1; error = e k; position = k }) best) (k ∷ [])) (sym h)
-    (refl, sym (among_one e k), ap e (sym (among_one e k)))
+held_more e best [] k h = ap (λ (b : Option Mix). improved b k true (e k)) h ∙ ap (λ (j : ℕ). Some (mix e j)) (sym (among_one e k))
 held_more e best (j ∷ js) k h =
-    subst (λ (b : ℕ). Held e (cond (eqb b 0 || lt (e k) best.error) (record { found = 1; error = e k; position = k }) best) (j ∷ (js ++ k ∷ [])))
-    (sym h.0)
-    (go (lt (e k) best.error) (ap (lt (e k)) (sym h.2)))
+    let m : ℕ = least_among e (j ∷ js) in
+    ap (λ (b : Option Mix). improved b k true (e k)) h ∙ go (lt (e k) (e m)) k m ∙ ap (λ (i : ℕ). Some (mix e i)) (sym (among_more e (j ∷ js) k (omega arith)))
   where
-    go : (u : Bool) → lt (e k) (e (least_among e (j ∷ js))) ≡ u → Held e (cond u (record { found = 1; error = e k; position = k }) best) (j ∷ (js ++ k ∷ []))
-    go true g = let m : k ≡ least_among e (j ∷ (js ++ k ∷ [])) = sym (among_more e (j ∷ js) k (omega arith) ∙ rw g) in (refl, m, ap e m)
-    go false g =
-        let m : least_among e (j ∷ js) ≡ least_among e (j ∷ (js ++ k ∷ [])) = sym (among_more e (j ∷ js) k (omega arith) ∙ rw g) in
-        (h.0, h.1 ∙ m, h.2 ∙ ap e m)
+    go : (t : Bool) (i j : ℕ) → cond t (Some (mix e i)) (Some (mix e j)) ≡ Some (mix e (cond t i j))
+    go true i j = refl
+    go false i j = refl
 
 those_more : (p : ℕ → Bool) (xs : List ℕ) (k : ℕ) → those p (xs ++ k ∷ []) ≡ cond (p k) (those p xs ++ k ∷ []) (those p xs)
 those_more p [] k = refl
@@ -94,21 +91,15 @@ those_more p (x ∷ xs) k = go (p x) (p k) (those_more p xs k)
     go false false q = q
 
 -- what `weigh` answers
-pub weighed_is : (best r : Best) (k : ℕ) (a b c : NormalizedColor) (t : Float) (s : Bool) (x : Float) → t ≡ lerp_of a b c false → s ≡ between t
+pub weighed_is : (best r : Option Mix) (k : ℕ) (a b c : NormalizedColor) (t : Float) (s : Bool) (x : Float) → t ≡ lerp_of a b c false → s ≡ between t
     → x ≡ mix_residual a b t c → r ≡ improved best k s x → r ≡ weighed best k a b c
 unfolding weighed lerp_of
 weighed_is best r k a b c t s x T S X e =
     e ∙ ap (λ (u : Bool). improved best k u x) (S ∙ ap between T)
     ∙ ap (improved best k (between (share_of a b c))) (X ∙ ap (λ (v : Float). mix_residual a b v c) T)
 
--- the first i of the first n of an array have had their turn beside entry a, whose colour is c1
-pub record Weighing (normalized : ℕ → NormalizedColor) (a : ℕ) (c c1 : NormalizedColor) (ps : List ℕ) (n i : ℕ) (best : Best) : Type 0 where
-  pub passed : i ≤ n
-  pub beside : c1 ≡ normalized a
-  pub held : BestBeside normalized a c (take i (take n ps)) best
-
 module _ (normalized : ℕ → NormalizedColor) (a : ℕ) (c : NormalizedColor) where
-  one_more : (best : Best) (ks : List ℕ) (k : ℕ) → BestBeside normalized a c ks best
+  one_more : (best : Option Mix) (ks : List ℕ) (k : ℕ) → BestBeside normalized a c ks best
       → BestBeside normalized a c (ks ++ k ∷ []) (weighed best k (normalized a) (normalized k) c)
   unfolding weighed improved
   one_more best ks k h = rw (those_more (mixable normalized a c) ks k) (go (mixable normalized a c k))
@@ -118,45 +109,36 @@ module _ (normalized : ℕ → NormalizedColor) (a : ℕ) (c : NormalizedColor) 
       go true = held_more (mix_error normalized a c) best (those (mixable normalized a c) ks) k h
       go false = h
 
-  module _ (ps : List ℕ) (n : ℕ) where
-    pub weighing_none : (c1 : NormalizedColor) (best : Best) → c1 ≡ normalized a → best.found ≡ 0 → Weighing normalized a c c1 ps n 0 best
-    weighing_none c1 best p e = record { passed = omega arith; beside = p; held = e }
-
-    -- a turn of the loop
-    pub weighing_more : {c1 : NormalizedColor} {i : ℕ} {best : Best} → Weighing normalized a c c1 ps n i best → i < n → n ≤ length ps
-        → (c2 : NormalizedColor) → c2 ≡ normalized (get_or ps i 0) → (r : Best) → r ≡ weighed best (get_or ps i 0) c1 c2 c
-        → Weighing normalized a c c1 ps n (i + 1) r
-    weighing_more {c1} {i} {best} w h l c2 q r e =
-        let k : ℕ = get_or ps i 0 in
-        let at : get_or (take n ps) i 0 ≡ k = get_or-take n ps i 0 h in
-        let long : i < length (take n ps) = omega (arith, length-take-le n ps l) in
-        let next : take (i + 1) (take n ps) ≡ take i (take n ps) ++ k ∷ [] =
-        ap (λ (m : ℕ). take m (take n ps)) (add-one i) ∙ take-suc (take n ps) i 0 long ∙ ap (λ (j : ℕ). take i (take n ps) ++ j ∷ []) at in
-        let same : r ≡ weighed best k (normalized a) (normalized k) c = e ∙ (λ j. weighed best k (w.beside j) (q j) c) in
-        record { passed = omega arith; beside = w.beside; held = rw (next, same) (one_more best (take i (take n ps)) k w.held) }
-
-    pub weighing_all : {c1 : NormalizedColor} {i : ℕ} {best : Best} → Weighing normalized a c c1 ps n i best → n ≤ i
-        → BestBeside normalized a c (take n ps) best
-    weighing_all {i = i} {best = best} w l =
-        subst (λ (ks : List ℕ). BestBeside normalized a c ks best)
-        (ap (λ (m : ℕ). take m (take n ps)) (le_antisymm w.passed l) ∙ take-take n n ps (le_refl n)) w.held
+  -- a turn of the loop
+  pub weighing_more : (ps : List ℕ) {c1 : NormalizedColor} {i : ℕ} (best : Option Mix) → c1 ≡ normalized a → BestBeside normalized a c (take i ps) best
+      → i < length ps → (r : Option Mix) → r ≡ weighed best (get_or ps i 0) c1 (normalized (get_or ps i 0)) c
+      → BestBeside normalized a c (take (i + 1) ps) r
+  weighing_more ps {c1} {i} best p h l r e =
+      let k : ℕ = get_or ps i 0 in
+      let next : take (i + 1) ps ≡ take i ps ++ k ∷ [] = ap (λ (m : ℕ). take m ps) (add-one i) ∙ take-suc ps i 0 l in
+      let same : r ≡ weighed best k (normalized a) (normalized k) c = e ∙ ap (λ (x : NormalizedColor). weighed best k x (normalized k) c) p in
+      rw (next, same) (one_more best (take i ps) k h)
 
 -- ---- the end: what the loop held, read out
-module _ (e : ℕ → Float) (best : Best) where
-  pub second_found : (qs ks : List ℕ) → Held e best qs → (best.found ≡ 0 → ⊥) → At best.position ≡ second_in e qs ks
-  second_found [] ks h t = absurd (t h)
-  second_found (q ∷ qs) ks h t = ap At h.1
+module _ (e : ℕ → Float) where
+  pub second_found : (best : Mix) (qs ks : List ℕ) → Held e (Some best) qs → Some best.position ≡ second_in e qs ks
+  second_found best [] ks h = absurd (never h)
+    where
+      never : Some best ≡ None → ⊥
+      never h = let z : ◌≡◌ {A = ℕ} 0 1 = cc in omega arith
+  second_found best (q ∷ qs) ks h = ap (λ (m : Option Mix). position_of m) h
+    where
+      position_of : Option Mix → Option ℕ
+      position_of None = None
+      position_of (Some m) = Some m.position
 
-  pub second_front : (qs ps : List ℕ) (n : ℕ) → Held e best qs → best.found ≡ 0 → 0 < n → n ≤ length ps → At (get_or ps 0 0) ≡ second_in e qs (take n ps)
-  second_front (q ∷ qs) ps n h f p l = absurd (omega (arith, h.0))
-  second_front [] [] n h f p l = absurd (omega arith)
-  second_front [] (k ∷ ps) zero h f p l = absurd (not-suc-le-zero p)
-  second_front [] (k ∷ ps) (suc n) h f p l = refl
-
-  pub second_nothing : (qs ps : List ℕ) (n : ℕ) → Held e best qs → best.found ≡ 0 → n ≤ 0 → Nothing ≡ second_in e qs (take n ps)
-  second_nothing (q ∷ qs) ps n h f p = absurd (omega (arith, h.0))
-  second_nothing [] ps zero h f p = refl
-  second_nothing [] ps (suc n) h f p = absurd (not-suc-le-zero p)
+  pub second_front : (qs ks : List ℕ) → Held e None qs → slice_get ks 0 ≡ second_in e qs ks
+  second_front (q ∷ qs) ks h = absurd (never _ h)
+    where
+      never : (m : Mix) → None ≡ Some m → ⊥
+      never m h = let z : ◌≡◌ {A = ℕ} 0 1 = cc in omega arith
+  second_front [] [] h = refl
+  second_front [] (k ∷ ks) h = refl
 
 -- ---- those that pass, and where the second is found
 pub those_in : (p : ℕ → Bool) (ks : List ℕ) (k : ℕ) → In k (those p ks) → In k ks × (p k ≡ true)
@@ -172,16 +154,16 @@ among_in : (e : ℕ → Float) (ks : List ℕ) → 0 < length ks → In (least_a
 unfolding least_among
 among_in e ks h = in_at 0 ks (least_of lt (λ j. e (get_or ks j 0)) (length ks)) (least_inside lt (λ j. e (get_or ks j 0)) (length ks) h)
 
-pub second_in_lem : (p : ℕ → Bool) (e : ℕ → Float) (ks : List ℕ) (b : ℕ) → second_of p e ks ≡ At b → In b ks
+pub second_in_lem : (p : ℕ → Bool) (e : ℕ → Float) (ks : List ℕ) (b : ℕ) → second_of p e ks ≡ Some b → In b ks
 second_in_lem p e ks b q = go (those p ks) ks q (λ k i. (those_in p ks k i).0)
   where
-    at : (u : ℕ) → At u ≡ At b → u ≡ b
+    at : (u : ℕ) → Some u ≡ Some b → u ≡ b
     at u h = cc
 
-    never : Nothing ≡ At b → ⊥
+    never : None ≡ Some b → ⊥
     never h = let z : ◌≡◌ {A = ℕ} 0 1 = cc in omega arith
 
-    go : (qs ks : List ℕ) → second_in e qs ks ≡ At b → ((k : ℕ) → In k qs → In k ks) → In b ks
+    go : (qs ks : List ℕ) → second_in e qs ks ≡ Some b → ((k : ℕ) → In k qs → In k ks) → In b ks
     go (x ∷ qs) ks h sub = sub b (subst (λ (u : ℕ). In u (x ∷ qs)) (at (least_among e (x ∷ qs)) h) (among_in e (x ∷ qs) (omega arith)))
     go [] (k ∷ ks) h sub = inl (sym (at k h))
     go [] [] h sub = absurd (never h)
@@ -196,7 +178,7 @@ module _ (p : ℕ → Bool) (e : ℕ → Float) (ks : List ℕ) where
       known : (qs : List ℕ) → ((k : ℕ) → In k qs → Plain (e k)) → (j : ℕ) → j < length qs → Plain (e (get_or qs j 0))
       known qs h j l = h (get_or qs j 0) (in_at 0 qs j l)
 
-      is : (qs : List ℕ) → At (least_among e qs) ≡ At (get_or qs (least_of lt (λ (j : ℕ). e (get_or qs j 0)) (length qs)) 0)
+      is : (qs : List ℕ) → Some (least_among e qs) ≡ Some (get_or qs (least_of lt (λ (j : ℕ). e (get_or qs j 0)) (length qs)) 0)
       is qs = refl
 
       go : (qs ks : List ℕ) → ((k : ℕ) → In k qs → Plain (e k)) → IsSecondIn e qs ks (second_in e qs ks)
@@ -205,11 +187,11 @@ module _ (p : ℕ → Bool) (e : ℕ → Float) (ks : List ℕ) where
       go [] (k ∷ ks) h = refl
       go [] [] h = refl
 
-  pub second_only : (s t : Second) → IsSecondIn e (those p ks) ks s → IsSecondIn e (those p ks) ks t → s ≡ t
+  pub second_only : (s t : Option ℕ) → IsSecondIn e (those p ks) ks s → IsSecondIn e (those p ks) ks t → s ≡ t
   second_only s t a b = go (those p ks) ks a b
     where
       go : (qs ks : List ℕ) → IsSecondIn e qs ks s → IsSecondIn e qs ks t → s ≡ t
-      go (q ∷ qs) ks a b = a.2 ∙ ap (λ (r : ℕ). At (get_or (q ∷ qs) r 0)) (least_only a.1 b.1) ∙ sym b.2
+      go (q ∷ qs) ks a b = a.2 ∙ ap (λ (r : ℕ). Some (get_or (q ∷ qs) r 0)) (least_only a.1 b.1) ∙ sym b.2
       go [] (k ∷ ks) a b = a ∙ sym b
       go [] [] a b = a ∙ sym b
 

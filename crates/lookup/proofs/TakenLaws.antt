@@ -4,6 +4,7 @@ use mathlib.Core.Path.{◌≡◌, refl, sym, ap, ◌∙◌, subst}
 use mathlib.Core.List.{List}
 use Prim.Native.Nat.{ℕ}
 use lib.Ieee.{Float}
+use Rattle.std.specs.Prelude.{Ok}
 use Rattle.color.specs.declared.NormalizedColor.{NormalizedColor}
 use Rattle.conversion.specs.Oklab.{to_oklab}
 use Rattle.patterns.specs.Thresholds.{threshold_at}
@@ -13,14 +14,12 @@ use Rattle.lookup.specs.Positions.{first_equal, Takes, EndsOf}
 use Rattle.lookup.specs.Answers.{FlatBracket, PickedAt}
 use Rattle.lookup.specs.declared.Bracket.{Bracket}
 use Rattle.lookup.specs.declared.Choice.{Choice}
-use Rattle.lookup.specs.declared.FoundBracket.TheVariants as bracket
-use Rattle.lookup.specs.declared.Picked.TheVariants as picked
 use Rattle.lookup.proofs.ListLaws.{accepted}
 use Rattle.lookup.proofs.PositionLaws.{bracket_ends, picked_taken}
 use Rattle.lookup.proofs.AnswerLaws.{bracket_given, pick_given}
 
 module _ (reduced normalized : List ℕ) (oklab : List Float) (color : NormalizedColor) (width : ℕ) {b : Bracket}
-    (a : FlatBracket reduced normalized oklab color width (bracket.Of b)) where
+    (a : FlatBracket reduced normalized oklab color width (Ok b)) where
   abbrev cs : Candidates
   cs = flat reduced normalized oklab
 
@@ -30,7 +29,7 @@ module _ (reduced normalized : List ℕ) (oklab : List Float) (color : Normalize
       let A = accepted reduced normalized oklab g.0 in
       subst (EndsOf cs) (sym g.1) (bracket_ends cs A.positive A.ranged.range width (to_oklab color) color)
 
-  pub flat_picked : (kind x y : ℕ) {r : Choice} → PickedAt b kind x y (picked.Of r) → Takes cs r.color r
+  pub flat_picked : (kind x y : ℕ) {r : Choice} → PickedAt b kind x y (Ok r) → Takes cs r.color r
   flat_picked kind x y {r} p =
       let g = bracket_given reduced normalized oklab color width a refl in
       let A = accepted reduced normalized oklab g.0 in

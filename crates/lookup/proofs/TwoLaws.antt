@@ -22,8 +22,7 @@ use Rattle.shortlist.specs.Nearest.{distances, nearest_of}
 use Rattle.shortlist.specs.Shortlist.{ranked, shortlist_of, Shortlist}
 use Rattle.lookup.specs.Second.{those, second_in, second_of, IsSecondIn, mixable, mix_error, second_to, nearest_two_of, NearestTwo}
 use Rattle.lookup.specs.declared.Two.{Two}
-use Rattle.lookup.specs.declared.Second.{Second}
-use Rattle.lookup.specs.declared.Second.TheVariants.{At, Nothing}
+use Rattle.std.specs.Prelude.{Option, Some, None}
 use Rattle.shortlist.proofs.NearestLaws.{nearest_least, nearest_inside, distances_plain}
 use Rattle.shortlist.proofs.RankedLaws.{is_ranked, length-ranked}
 use Rattle.shortlist.proofs.ArrayLaws.{clamp_low}
@@ -31,7 +30,7 @@ use Rattle.shortlist.proofs.ShortlistLaws.{in_take, shortlist_is, shortlist_only
 use Rattle.lookup.proofs.SecondLaws.{second_in_lem, second_is, second_only, error_plain}
 
 module _ (cs : Candidates) (width : ℕ) (o : Oklab) (c : NormalizedColor) where
-  pub two_is : (a : ℕ) (ps : List ℕ) (r : Second) → a ≡ nearest_of cs o → ps ≡ shortlist_of (distances (cs.oklab a) cs.oklab) a cs.count width
+  pub two_is : (a : ℕ) (ps : List ℕ) (r : Option ℕ) → a ≡ nearest_of cs o → ps ≡ shortlist_of (distances (cs.oklab a) cs.oklab) a cs.count width
       → r ≡ second_of (mixable cs.normalized a c) (mix_error cs.normalized a c) ps
       → ◌≡◌ {A = Two} (record { first = a; second = r }) (nearest_two_of cs width o c)
   unfolding nearest_two_of
@@ -41,15 +40,15 @@ module _ (cs : Candidates) (width : ℕ) (o : Oklab) (c : NormalizedColor) where
       λ i. record { first = p i; second = s i }
 
   -- ---- with one candidate there is no second, with more there is
-  none : (p : ℕ → Bool) (e : ℕ → Float) (ks : List ℕ) → length ks ≡ 0 → second_of p e ks ≡ Nothing
+  none : (p : ℕ → Bool) (e : ℕ → Float) (ks : List ℕ) → length ks ≡ 0 → second_of p e ks ≡ None
   none p e [] h = refl
   none p e (k ∷ ks) h = absurd (omega arith)
 
-  some : (p : ℕ → Bool) (e : ℕ → Float) (ks : List ℕ) → 0 < length ks → (b : ℕ) × (second_of p e ks ≡ At b)
+  some : (p : ℕ → Bool) (e : ℕ → Float) (ks : List ℕ) → 0 < length ks → (b : ℕ) × (second_of p e ks ≡ Some b)
   some p e [] h = absurd (not-suc-le-zero h)
   some p e (k ∷ ks) h = go (those p (k ∷ ks))
     where
-      go : (qs : List ℕ) → (b : ℕ) × (second_in e qs (k ∷ ks) ≡ At b)
+      go : (qs : List ℕ) → (b : ℕ) × (second_in e qs (k ∷ ks) ≡ Some b)
       go [] = (k, refl)
       go (q ∷ qs) = (_, refl)
 
@@ -67,20 +66,20 @@ module _ (cs : Candidates) (width : ℕ) (o : Oklab) (c : NormalizedColor) where
     abbrev short : List ℕ
     short = shortlist_of (distances (cs.oklab a) cs.oklab) a cs.count width
 
-    pub one_alone : cs.count ≡ 1 → (nearest_two_of cs width o c).second ≡ Nothing
+    pub one_alone : cs.count ≡ 1 → (nearest_two_of cs width o c).second ≡ None
     unfolding nearest_two_of
     one_alone one =
         none (mixable cs.normalized a c) (mix_error cs.normalized a c) short
         (omega (arith, size, length-take (clamp_width width) (ranked (distances (cs.oklab a) cs.oklab) a cs.count)))
 
-    pub two_or_more : 1 < cs.count → (b : ℕ) × ((nearest_two_of cs width o c).second ≡ At b)
+    pub two_or_more : 1 < cs.count → (b : ℕ) × ((nearest_two_of cs width o c).second ≡ Some b)
     unfolding nearest_two_of
     two_or_more more =
         some (mixable cs.normalized a c) (mix_error cs.normalized a c) short
         (omega (arith, size, clamp_low width, length-take (clamp_width width) (ranked (distances (cs.oklab a) cs.oklab) a cs.count)))
 
     module _ (range : (k : ℕ) → k < cs.count → T (all_in_range (cs.oklab k))) where
-      other : (b : ℕ) → (nearest_two_of cs width o c).second ≡ At b → (b < cs.count) × (b ≡ a → ⊥)
+      other : (b : ℕ) → (nearest_two_of cs width o c).second ≡ Some b → (b < cs.count) × (b ≡ a → ⊥)
       unfolding nearest_two_of
       other b e =
           let d = distances (cs.oklab a) cs.oklab in
@@ -88,10 +87,10 @@ module _ (cs : Candidates) (width : ℕ) (o : Oklab) (c : NormalizedColor) where
           let plain = distances_plain cs.oklab cs.count range (cs.oklab a) (range a (nearest_inside cs.oklab cs.count o positive)) in
           (is_ranked d a cs.count plain).sound b (in_take (clamp_width width) (ranked d a cs.count) b i)
 
-      pub second_inside : (b : ℕ) → (nearest_two_of cs width o c).second ≡ At b → b < cs.count
+      pub second_inside : (b : ℕ) → (nearest_two_of cs width o c).second ≡ Some b → b < cs.count
       second_inside b e = (other b e).0
 
-      pub second_other : (b : ℕ) → (nearest_two_of cs width o c).second ≡ At b → b ≡ (nearest_two_of cs width o c).first → ⊥
+      pub second_other : (b : ℕ) → (nearest_two_of cs width o c).second ≡ Some b → b ≡ (nearest_two_of cs width o c).first → ⊥
       unfolding nearest_two_of
       second_other b e = (other b e).1
 
@@ -130,7 +129,7 @@ module _ (cs : Candidates) (width : ℕ) (o : Oklab) (c : NormalizedColor) (posi
       -- whatever the second beside a is, it is t's
       Same : ℕ → Type 0
       Same a =
-          (ks : List ℕ) (s : Second) → Shortlist (distances (cs.oklab a) cs.oklab) a cs.count w ks
+          (ks : List ℕ) (s : Option ℕ) → Shortlist (distances (cs.oklab a) cs.oklab) a cs.count w ks
           → IsSecondIn (mix_error cs.normalized a c) (those (mixable cs.normalized a c) ks) ks s → t.second ≡ s
 
       here : Same t.first
@@ -147,5 +146,5 @@ module _ (cs : Candidates) (width : ℕ) (o : Oklab) (c : NormalizedColor) (two 
   pub first_entry : two.first < cs.count
   first_entry = subst (λ (t : Two). t.first < cs.count) (sym e) (first_inside cs width o c positive)
 
-  pub second_entry : ((k : ℕ) → k < cs.count → T (all_in_range (cs.oklab k))) → (b : ℕ) → two.second ≡ At b → b < cs.count
+  pub second_entry : ((k : ℕ) → k < cs.count → T (all_in_range (cs.oklab k))) → (b : ℕ) → two.second ≡ Some b → b < cs.count
   second_entry range b s = second_inside cs width o c positive range b (ap (λ (t : Two). t.second) (sym e) ∙ s)

@@ -2,7 +2,7 @@
 -- Written from document 01, "Choosing colours": "Bracket: if the second's lightness is at least `a`'s, dark is `a` and ratio is the clamped `lerp`;
 -- otherwise dark is the second and ratio is 1 minus it. Light is picked if the two reduced colours differ and ratio exceeds the threshold."; and document
 -- 02, Ask 4: "`nearest`, `nearest_two` and the bracket should answer with the taken records' positions besides the colours."
-use Rattle.std.specs.Prelude.{ℕ, Bool, true, cond, not, ◌&&◌, Float}
+use Rattle.std.specs.Prelude.{ℕ, Option, Some, None, Bool, true, cond, not, ◌&&◌, Float}
 use Rattle.std.specs.Float.{binary32}
 use Rattle.std.specs.Float.Ieee.{le, lt, sub}
 use Rattle.floats.specs.Bytes.{zero_f, one_f}
@@ -13,8 +13,6 @@ use Rattle.color.specs.Color.{same_reduced}
 use Rattle.mixing.specs.Lerp.{lerp_of}
 use Rattle.shortlist.specs.Candidates.{Candidates}
 use Rattle.lookup.specs.Second.{nearest_two_of}
-use Rattle.lookup.specs.declared.Second.{Second}
-use Rattle.lookup.specs.declared.Second.TheVariants.{At, Nothing}
 use Rattle.lookup.specs.declared.BracketAt.{BracketAt}
 use Rattle.lookup.specs.declared.Bracket.{Bracket}
 use Rattle.lookup.specs.declared.Choice.{Choice}
@@ -31,9 +29,9 @@ abbrev pub solid_at : ℕ → BracketAt
 solid_at a = record { dark = a; light = a; ratio = zero_f }
 
 -- entry a, and the second if there is one
-abbrev pub bracket_two : (ℕ → Oklab) → (ℕ → NormalizedColor) → NormalizedColor → ℕ → Second → BracketAt
-bracket_two oklab normalized c a Nothing = solid_at a
-bracket_two oklab normalized c a (At b) = bracket_with oklab a b (normalized a) (normalized b) c
+abbrev pub bracket_two : (ℕ → Oklab) → (ℕ → NormalizedColor) → NormalizedColor → ℕ → Option ℕ → BracketAt
+bracket_two oklab normalized c a None = solid_at a
+bracket_two oklab normalized c a (Some b) = bracket_with oklab a b (normalized a) (normalized b) c
 
 -- the positions and the ratio, for a colour c that is o in Oklab
 unfoldable pub bracket_at_of : Candidates → ℕ → Oklab → NormalizedColor → BracketAt

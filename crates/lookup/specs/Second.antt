@@ -1,7 +1,7 @@
 -- The second colour of an ordered dither. Definitions only.
 -- Written from document 01, "Choosing colours": "Among those whose unclamped `lerp` is from 0 to 1, take the smallest `mix_residual`, first of
 -- equals. If none, the shortlist's first. With one candidate there is no second."
-use Rattle.std.specs.Prelude.{ℕ, ◌≡◌, List, [], ◌∷◌, Bool, cond, ◌&&◌, ◌||◌, eqb, length, get_or, Float}
+use Rattle.std.specs.Prelude.{ℕ, ◌≡◌, List, [], ◌∷◌, Option, Some, None, Bool, true, cond, ◌&&◌, length, get_or, Float}
 use Rattle.std.specs.Float.Ieee.{lt}
 use Rattle.lists.specs.Least.{least_of, Least}
 use Rattle.color.specs.declared.NormalizedColor.{NormalizedColor}
@@ -12,9 +12,7 @@ use Rattle.shortlist.specs.Candidates.{Candidates}
 use Rattle.shortlist.specs.Nearest.{distances, nearest_of}
 use Rattle.shortlist.specs.Shortlist.{shortlist_of, Shortlist}
 use Rattle.lookup.specs.declared.Two.{Two}
-use Rattle.lookup.specs.declared.Best.{Best}
-use Rattle.lookup.specs.declared.Second.{Second}
-use Rattle.lookup.specs.declared.Second.TheVariants.{At, Nothing}
+use Rattle.lookup.specs.declared.seconds.Mix.{Mix}
 
 -- those of a list that pass a test
 abbrev pub those : (ℕ → Bool) → List ℕ → List ℕ
@@ -26,20 +24,20 @@ unfoldable pub least_among : (ℕ → Float) → List ℕ → ℕ
 least_among e ks = get_or ks (least_of lt (λ j. e (get_or ks j 0)) (length ks)) 0
 
 -- among those that pass the first of the least; if none does, the first of all; of none nothing
-abbrev pub second_in : (ℕ → Float) → List ℕ → List ℕ → Second
-second_in e (k ∷ passing) ks = At (least_among e (k ∷ passing))
-second_in e [] (k ∷ ks) = At k
-second_in e [] [] = Nothing
+abbrev pub second_in : (ℕ → Float) → List ℕ → List ℕ → Option ℕ
+second_in e (k ∷ passing) ks = Some (least_among e (k ∷ passing))
+second_in e [] (k ∷ ks) = Some k
+second_in e [] [] = None
 
-abbrev pub second_of : (ℕ → Bool) → (ℕ → Float) → List ℕ → Second
+abbrev pub second_of : (ℕ → Bool) → (ℕ → Float) → List ℕ → Option ℕ
 second_of p e ks = second_in e (those p ks) ks
 
 -- s is the second, of those that pass and of the whole list: what `second_in` is, and all that it is (proofs/SecondLaws)
-abbrev pub IsSecondIn : (ℕ → Float) → List ℕ → List ℕ → Second → Type 0
+abbrev pub IsSecondIn : (ℕ → Float) → List ℕ → List ℕ → Option ℕ → Type 0
 IsSecondIn e (k ∷ passing) ks s =
-    (r : ℕ) × Least lt (λ (j : ℕ). e (get_or (k ∷ passing) j 0)) (length (k ∷ passing)) r × (s ≡ At (get_or (k ∷ passing) r 0))
-IsSecondIn e [] (k ∷ ks) s = s ≡ At k
-IsSecondIn e [] [] s = s ≡ Nothing
+    (r : ℕ) × Least lt (λ (j : ℕ). e (get_or (k ∷ passing) j 0)) (length (k ∷ passing)) r × (s ≡ Some (get_or (k ∷ passing) r 0))
+IsSecondIn e [] (k ∷ ks) s = s ≡ Some k
+IsSecondIn e [] [] s = s ≡ None
 
 -- whether the unclamped `lerp` from entry a to entry k is from 0 to 1, and the residual of that mix
 abbrev pub mixable : (ℕ → NormalizedColor) → ℕ → NormalizedColor → ℕ → Bool
@@ -49,10 +47,10 @@ abbrev pub mix_error : (ℕ → NormalizedColor) → ℕ → NormalizedColor →
 mix_error normalized a c k = mix_residual (normalized a) (normalized k) (share_of (normalized a) (normalized k) c) c
 
 -- the second beside entry a, of a shortlist
-abbrev pub second_beside : (ℕ → NormalizedColor) → ℕ → NormalizedColor → List ℕ → Second
+abbrev pub second_beside : (ℕ → NormalizedColor) → ℕ → NormalizedColor → List ℕ → Option ℕ
 second_beside normalized a c ks = second_of (mixable normalized a c) (mix_error normalized a c) ks
 
-abbrev pub second_to : Candidates → ℕ → NormalizedColor → ℕ → Second
+abbrev pub second_to : Candidates → ℕ → NormalizedColor → ℕ → Option ℕ
 second_to cs width c a = second_beside cs.normalized a c (shortlist_of (distances (cs.oklab a) cs.oklab) a cs.count width)
 
 -- the nearest and the second, of a colour c that is o in Oklab
@@ -73,19 +71,23 @@ pub record NearestTwo (cs : Candidates) (width : ℕ) (o : Oklab) (c : Normalize
 -- ---- how the code holds the best so far
 
 -- best is the first of the least among these, or nothing where there are none
-abbrev pub Held : (ℕ → Float) → Best → List ℕ → Type 0
-Held e best [] = best.found ≡ 0
-Held e best (k ∷ ks) = (best.found ≡ 1) × (best.position ≡ least_among e (k ∷ ks)) × (best.error ≡ e (least_among e (k ∷ ks)))
+abbrev pub Held : (ℕ → Float) → Option Mix → List ℕ → Type 0
+Held e best [] = best ≡ None
+Held e best (k ∷ ks) = best ≡ Some (record { error = e (least_among e (k ∷ ks)); position = least_among e (k ∷ ks) })
 
 -- best is that of the entries of ks that mix with entry a, if one does
-abbrev pub BestBeside : (ℕ → NormalizedColor) → ℕ → NormalizedColor → List ℕ → Best → Type 0
+abbrev pub BestBeside : (ℕ → NormalizedColor) → ℕ → NormalizedColor → List ℕ → Option Mix → Type 0
 BestBeside normalized a c ks best = Held (mix_error normalized a c) best (those (mixable normalized a c) ks)
 
+-- whether an error is below the best's, if there is a best
+abbrev pub is_below : Option Mix → Float → Bool
+is_below None error = true
+is_below (Some best) error = lt error best.error
+
 -- k with its error, where it mixes, and there is no best yet or its error is below the best's
-unfoldable pub improved : Best → ℕ → Bool → Float → Best
-improved best k mixes error =
-    cond (mixes && (eqb best.found 0 || lt error best.error)) (record { found = 1; error = error; position = k }) best
+unfoldable pub improved : Option Mix → ℕ → Bool → Float → Option Mix
+improved best k mixes error = cond (mixes && is_below best error) (Some (record { error = error; position = k })) best
 
 -- entry k's turn: it counts where its share is from 0 to 1
-unfoldable pub weighed : Best → ℕ → NormalizedColor → NormalizedColor → NormalizedColor → Best
+unfoldable pub weighed : Option Mix → ℕ → NormalizedColor → NormalizedColor → NormalizedColor → Option Mix
 weighed best k c1 c2 c = improved best k (between (share_of c1 c2 c)) (mix_residual c1 c2 (share_of c1 c2 c) c)

@@ -1,27 +1,20 @@
 // The bracket: the nearest entry and the second, the darker first, and the share of the lighter.
 ghost use Rattle.std.specs.Prelude.{◌≡◌, ℕ, ◌+◌, ◌*◌, ◌<◌, length};
-ghost use Rattle.color.specs.declared.Oklab.{Oklab as Lab};
 ghost use Rattle.color.specs.Color.{reduced_at};
-ghost use Rattle.color.specs.Oklab.{oklab_at};
-ghost use Rattle.lookup.specs.Bracket.{bracket_with, colored};
+ghost use Rattle.lookup.specs.Bracket.{bracket_with, bracket_two, colored};
 
-use super::{Bracket, BracketAt};
-use color::{NormalizedColor, Oklab, ReducedColor, oklab_at, rgba_at};
+use super::{Bracket, BracketAt, Entries, Two};
+use color::{NormalizedColor, ReducedColor, rgba_at};
 use mixing::lerp;
 
-// The bracket of entries a and b, whose Oklab colours are p and q and whose normalised colours are c1 and c2.
-pub fn bracket_between(
-    a: usize,
-    b: usize,
-    p: Oklab,
-    q: Oklab,
-    c1: NormalizedColor,
-    c2: NormalizedColor,
-    color: NormalizedColor,
-) -> BracketAt
-    ensures { (oklab : ℕ → Lab) → p ≡ oklab a → q ≡ oklab b → result ≡ bracket_with oklab a b c1 c2 color }
+// The bracket of entries a and b. No public call: the caller sees to the positions.
+fn bracket_between<E: Entries>(entries: &E, a: usize, b: usize, color: NormalizedColor) -> BracketAt
+    requires { (a < (E.listed entries.now).count) × (b < (E.listed entries.now).count) }
+    ensures { result ≡ bracket_with (E.listed entries.now).oklab a b ((E.listed entries.now).normalized a) ((E.listed entries.now).normalized b) color }
 {
-    let t = lerp(c1, c2, color, true);
+    let p = entries.oklab_at(a);
+    let q = entries.oklab_at(b);
+    let t = lerp(entries.normal_at(a), entries.normal_at(b), color, true);
     if q.l >= p.l {
         return BracketAt {
             dark: a,
@@ -36,19 +29,15 @@ pub fn bracket_between(
     }
 }
 
-// The same of entries of a flat list. No public call: the caller sees to the positions.
-pub fn bracket_with(
-    oklab: &[f32],
-    a: usize,
-    b: usize,
-    c1: NormalizedColor,
-    c2: NormalizedColor,
-    color: NormalizedColor,
-) -> BracketAt
-    requires { (3 * a + 2 < length oklab.now) × (3 * b + 2 < length oklab.now) }
-    ensures { result ≡ bracket_with (oklab_at oklab.now) a b c1 c2 color }
+// The bracket of two that were found. No public call: the caller sees to the positions.
+pub fn bracket_of_two<E: Entries>(entries: &E, two: Two, color: NormalizedColor) -> BracketAt
+    requires { (two.first < (E.listed entries.now).count) × ((b : ℕ) → two.second ≡ Some b → b < (E.listed entries.now).count) }
+    ensures { result ≡ bracket_two (E.listed entries.now).oklab (E.listed entries.now).normalized color two.first two.second }
 {
-    bracket_between(a, b, oklab_at(oklab, a), oklab_at(oklab, b), c1, c2, color)
+    match two.second {
+        Some(b) => bracket_between(entries, two.first, b, color),
+        None => BracketAt::solid(two.first),
+    }
 }
 
 // The bracket with its reduced colours. No public call: the caller sees to the positions.

@@ -1,10 +1,11 @@
 // What the flat calls refuse.
-ghost use Rattle.std.specs.Prelude.{◌≡◌, ℕ, ◌+◌, ◌<◌, ◌≤◌, T, length};
-ghost use Rattle.lists.specs.First.{all_pass};
-ghost use Rattle.lookup.specs.Lists.{lengths_fit, inside_at, first_outside, list_number};
+ghost use Rattle.std.specs.Prelude.{◌≡◌, ltb, length};
+ghost use Rattle.replies.specs.Refusals.{number_of};
+ghost use Rattle.lookup.specs.Lists.{lengths_fit, first_outside, list_number};
 
 use super::count_fits;
 use color::in_range;
+use replies::Refusal;
 
 // Four bytes an entry in both lists of bytes, three floats an entry.
 fn lengths_fit(reduced: usize, normalized: usize, oklab: usize) -> bool
@@ -13,68 +14,29 @@ fn lengths_fit(reduced: usize, normalized: usize, oklab: usize) -> bool
     (reduced % 4 == 0) & ((normalized == reduced) & (oklab == 3 * (reduced / 4)))
 }
 
-// Whether component i is from -2 to 2. No public call: the caller sees to the length.
-fn inside_at(oklab: &[f32], i: usize) -> bool
-    requires { i < length oklab.now }
-    ensures { result ≡ inside_at oklab.now i }
+// Whether a component is not from -2 to 2. No branch, so that many are looked at side by side.
+fn any_outside(oklab: &[f32]) -> bool
+    ensures { result ≡ ltb (first_outside oklab.now) (length oklab.now) }
 {
-    in_range(oklab[i])
-}
-
-// Whether the eight components from i on are all from -2 to 2. No branch, so that the eight are looked at side by side. No
-// public call: the caller sees to the length.
-fn eight_in_range(oklab: &[f32], i: usize) -> bool
-    requires { i + 7 < length oklab.now }
-    ensures { result ≡ all_pass (inside_at oklab.now) i 8 }
-{
-    inside_at(oklab, i)
-        & inside_at(oklab, i + 1)
-        & inside_at(oklab, i + 2)
-        & inside_at(oklab, i + 3)
-        & inside_at(oklab, i + 4)
-        & inside_at(oklab, i + 5)
-        & inside_at(oklab, i + 6)
-        & inside_at(oklab, i + 7)
-}
-
-// The same as `first_outside`, where none before the start is outside. No public call: the caller sees to the start.
-fn outside_from(oklab: &[f32], start: usize) -> usize
-    requires { (start ≤ length oklab.now) × ((k : ℕ) → k < start → T (inside_at oklab.now k)) }
-    ensures { result ≡ first_outside oklab.now }
-{
-    let mut i = start;
-    while i < oklab.len() {
-        if !inside_at(oklab, i) {
-            return i;
-        }
-        i += 1;
+    let mut outside = false;
+    for x in oklab {
+        outside |= !in_range(*x);
     }
-    i
+    outside
 }
 
-// The first component that is not from -2 to 2; the length where all are.
-fn first_outside(oklab: &[f32]) -> usize
-    ensures { result ≡ first_outside oklab.now }
-{
-    let mut i = 0;
-    while 8 <= oklab.len() - i && eight_in_range(oklab, i) {
-        i += 8;
-    }
-    outside_from(oklab, i)
-}
-
-// Document 01's number for a list: 3, 4, 6, or 0 where it is accepted.
-pub fn list_refusal(reduced: &[u8], normalized: &[u8], oklab: &[f32]) -> u8
-    ensures { result ≡ list_number reduced.now normalized.now oklab.now }
+// Whether a list is accepted: document 01's numbers 3, 4 and 6.
+pub fn list_refusal(reduced: &[u8], normalized: &[u8], oklab: &[f32]) -> Result<(), Refusal>
+    ensures { number_of result ≡ list_number reduced.now normalized.now oklab.now }
 {
     if !lengths_fit(reduced.len(), normalized.len(), oklab.len()) {
-        return 3;
+        return Err(Refusal::Length);
     }
     if !count_fits(reduced.len() / 4) {
-        return 4;
+        return Err(Refusal::Entries);
     }
-    if first_outside(oklab) < oklab.len() {
-        return 6;
+    if any_outside(oklab) {
+        return Err(Refusal::Component);
     }
-    0
+    Ok(())
 }

@@ -1,129 +1,97 @@
-// The lookups over flat lists that are accepted. Such a list carries its own normalised bytes.
-ghost use Rattle.std.specs.Prelude.{◌≡◌, ℕ, ◌+◌, ◌*◌, ◌<◌, ◌≤◌, T, length, get_or, take};
-ghost use Rattle.color.specs.Color.{normalized_at};
+// Flat lists that are accepted, and the lookups over them. Such a list carries its own normalised bytes.
+ghost use Rattle.std.specs.Prelude.{◌≡◌, ◌/◌, T, length, IfOk};
+ghost use Rattle.replies.specs.Refusals.{number_of};
 ghost use Rattle.color.specs.Oklab.{all_in_range};
 ghost use Rattle.shortlist.specs.Candidates.{flat};
-ghost use Rattle.lookup.specs.Second.{second_beside, BestBeside, nearest_two_of};
-ghost use Rattle.lookup.specs.Bracket.{bracket_at_of, bracket_of};
+ghost use Rattle.shortlist.specs.Nearest.{nearest_of};
+ghost use Rattle.lookup.specs.Second.{nearest_two_of};
+ghost use Rattle.lookup.specs.Bracket.{bracket_of};
 ghost use Rattle.lookup.specs.Lists.{list_number};
 
-use super::brackets::{bracket_at, bracket_with};
-use super::seconds::{second_by, weigh};
-use super::{Best, Bracket, BracketAt, Second, Two};
-use color::{NormalizedColor, Oklab, rgba_at};
+use super::brackets::{bracket_at, bracket_of_two};
+use super::checks::list_refusal;
+use super::seconds::second_of;
+use super::{Bracket, Entries, Two};
+use color::{NormalizedColor, Oklab, oklab_at, rgba_at};
+use replies::Refusal;
+use shortlist::Shortlist;
 use shortlist::near::nearest_position;
-use shortlist::shortlist;
 
-// Entry k of a list of normalised bytes. No public call: the caller sees to the length.
-fn normal_at(normalized: &[u8], k: usize) -> NormalizedColor
-    requires { 4 * k + 3 < length normalized.now }
-    ensures { result ≡ normalized_at normalized.now k }
-{
-    NormalizedColor(rgba_at(normalized, k))
+// A list that is accepted: reduced and normalised bytes four an entry, Oklab floats three an entry.
+#[derive(Clone, Copy)]
+pub struct Flat<'a> {
+    reduced: &'a [u8],
+    normalized: &'a [u8],
+    oklab: &'a [f32],
+    ghost accepted: { list_number reduced.now normalized.now oklab.now ≡ 0 },
 }
 
-// The best of the shortlist's entries beside entry a, if one of them mixes.
-fn best_of(
-    normalized: &[u8],
-    a: usize,
-    positions: &[usize; 16],
-    count: usize,
-    color: NormalizedColor,
-) -> Best
-    requires { (4 * a + 3 < length normalized.now) × (count ≤ 16) × (length positions.now ≡ 16)
-        × ((i : ℕ) → i < count → 4 * get_or positions.now i 0 + 3 < length normalized.now) }
-    ensures { BestBeside (normalized_at normalized.now) a color (take count positions.now) result }
-{
-    let c1 = normal_at(normalized, a);
-    let mut best = Best::none();
-    let mut i = 0;
-    while i < count {
-        let k = positions[i];
-        best = weigh(best, k, c1, normal_at(normalized, k), color);
-        i += 1;
+impl<'a> Entries for Flat<'a> {
+    ghost listed = { λ list. flat list.reduced.now list.normalized.now list.oklab.now };
+
+    fn normal_at(&self, k: usize) -> NormalizedColor {
+        NormalizedColor(rgba_at(self.normalized, k))
     }
-    best
-}
 
-// Among the shortlist's entries that mix with entry a to the colour, the one with the smallest error, the first of equals;
-// if none does, the shortlist's first. No public call: the caller sees to lengths and positions.
-fn second_of(
-    normalized: &[u8],
-    a: usize,
-    positions: &[usize; 16],
-    count: usize,
-    color: NormalizedColor,
-) -> Second
-    requires { (4 * a + 3 < length normalized.now) × (count ≤ 16) × (length positions.now ≡ 16)
-        × ((i : ℕ) → i < count → 4 * get_or positions.now i 0 + 3 < length normalized.now) }
-    ensures { result ≡ second_beside (normalized_at normalized.now) a color (take count positions.now) }
-{
-    second_by(
-        best_of(normalized, a, positions, count, color),
-        positions,
-        count,
-    )
-}
-
-// The nearest two. No public call: the caller sees to the lists and the range.
-pub fn two_of(
-    reduced: &[u8],
-    normalized: &[u8],
-    oklab: &[f32],
-    width: u64,
-    o: Oklab,
-    color: NormalizedColor,
-) -> Two
-    requires { (list_number reduced.now normalized.now oklab.now ≡ 0) × T (all_in_range o) }
-    ensures { result ≡ nearest_two_of (flat reduced.now normalized.now oklab.now) width o color }
-{
-    let count = reduced.len() / 4;
-    let a = nearest_position(oklab, count, o.l, o.a, o.b, 0);
-    let mut positions = [0usize; 16];
-    let mut far = [0.0f32; 16];
-    let found = shortlist(oklab, count, a, width, &mut positions, &mut far);
-    let second = second_of(normalized, a, &positions, found, color);
-    Two {
-        first: a,
-        second: second,
+    fn oklab_at(&self, k: usize) -> Oklab {
+        oklab_at(self.oklab, k)
     }
 }
 
-// The positions of the bracket, and its ratio. No public call: the caller sees to the lists and the range.
-fn bracket_positions(
-    reduced: &[u8],
-    normalized: &[u8],
-    oklab: &[f32],
-    width: u64,
-    o: Oklab,
-    color: NormalizedColor,
-) -> BracketAt
-    requires { (list_number reduced.now normalized.now oklab.now ≡ 0) × T (all_in_range o) }
-    ensures { result ≡ bracket_at_of (flat reduced.now normalized.now oklab.now) width o color }
-{
-    let two = two_of(reduced, normalized, oklab, width, o, color);
-    let a = two.first;
-    let second = two.second;
-    let Second::At(b) = second else {
-        return BracketAt::solid(a);
-    };
-    let c1 = normal_at(normalized, a);
-    let c2 = normal_at(normalized, b);
-    bracket_with(oklab, a, b, c1, c2, color)
-}
+impl<'a> Flat<'a> {
+    // The list of these, or why it is refused.
+    pub fn new(
+        reduced: &'a [u8],
+        normalized: &'a [u8],
+        oklab: &'a [f32],
+    ) -> Result<Flat<'a>, Refusal>
+        ensures number { number_of result ≡ list_number reduced.now normalized.now oklab.now }
+        ensures list { IfOk result (λ list. (list.reduced.now ≡ reduced.now) × (list.normalized.now ≡ normalized.now)
+            × (list.oklab.now ≡ oklab.now)) }
+    {
+        list_refusal(reduced, normalized, oklab)?;
+        Ok(Flat {
+            reduced,
+            normalized,
+            oklab,
+        })
+    }
 
-// The bracket. No public call: the caller sees to the lists and the range.
-pub fn bracket_of(
-    reduced: &[u8],
-    normalized: &[u8],
-    oklab: &[f32],
-    width: u64,
-    o: Oklab,
-    color: NormalizedColor,
-) -> Bracket
-    requires { (list_number reduced.now normalized.now oklab.now ≡ 0) × T (all_in_range o) }
-    ensures { result ≡ bracket_of (flat reduced.now normalized.now oklab.now) width o color }
-{
-    let at = bracket_positions(reduced, normalized, oklab, width, o, color);
-    bracket_at(reduced, at)
+    // How many entries it has.
+    fn count(&self) -> usize
+        ensures { result ≡ length self.now.reduced.now / 4 }
+    {
+        self.reduced.len() / 4
+    }
+
+    // The nearest entry. No public call: the caller sees to the range.
+    pub fn nearest(&self, o: Oklab) -> usize
+        requires { T (all_in_range o) }
+        ensures { result ≡ nearest_of (flat self.now.reduced.now self.now.normalized.now self.now.oklab.now) o }
+    {
+        nearest_position(self.oklab, self.count(), o.l, o.a, o.b, 0)
+    }
+
+    // The nearest two. No public call: the caller sees to the range.
+    pub fn two(&self, width: u64, o: Oklab, color: NormalizedColor) -> Two
+        requires { T (all_in_range o) }
+        ensures { result ≡ nearest_two_of (flat self.now.reduced.now self.now.normalized.now self.now.oklab.now) width o color }
+    {
+        let a = self.nearest(o);
+        let mut short = Shortlist::new();
+        short.list(self.oklab, self.count(), a, width);
+        Two {
+            first: a,
+            second: second_of(self, a, short.listed(), color),
+        }
+    }
+
+    // The bracket. No public call: the caller sees to the range.
+    pub fn bracket(&self, width: u64, o: Oklab, color: NormalizedColor) -> Bracket
+        requires { T (all_in_range o) }
+        ensures { result ≡ bracket_of (flat self.now.reduced.now self.now.normalized.now self.now.oklab.now) width o color }
+    {
+        let at = bracket_of_two(self, self.two(width, o, color), color);
+        bracket_at(self.reduced, at)
+    }
 }

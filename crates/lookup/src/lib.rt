@@ -8,17 +8,34 @@ mod checks;
 mod flat;
 pub mod seconds;
 
-ghost use Rattle.std.specs.Prelude.{◌≡◌};
+ghost use Rattle.std.specs.Prelude.{◌≡◌, ℕ, ◌<◌};
+ghost use Rattle.shortlist.specs.Candidates.{Candidates};
 ghost use Rattle.lookup.specs.Lists.{count_fits};
 ghost use Rattle.lookup.specs.Bracket.{solid_at, choice_at};
 ghost use Rattle.lookup.specs.Answers.{FlatNearest, FlatTwo, FlatBracket, PickedAt};
 
-use checks::list_refusal;
-use color::{NormalizedColor, ReducedColor, same_reduced};
+use color::{NormalizedColor, Oklab, ReducedColor};
 use conversion::to_oklab;
-use flat::{bracket_of, two_of};
-use patterns::{Thresholded, ordered_threshold};
-use shortlist::near::nearest_position;
+use flat::Flat;
+use patterns::ordered_threshold;
+use replies::Refusal;
+
+// A list of candidates that are read by their positions: the flat lists here and in crate `remembered`, and the lists of
+// records in crate `records`. What is made of the entries stands once, in `seconds` and `brackets`.
+pub trait Entries {
+    // the list, as the definitions ask it
+    ghost listed: { Self → Candidates };
+
+    // Entry k's normalised colour.
+    fn normal_at(&self, k: usize) -> NormalizedColor
+        requires { k < (listed self.now).count }
+        ensures { result ≡ (listed self.now).normalized k };
+
+    // Entry k's colour in Oklab.
+    fn oklab_at(&self, k: usize) -> Oklab
+        requires { k < (listed self.now).count }
+        ensures { result ≡ (listed self.now).oklab k };
+}
 
 // From 1 to 65,536 entries: what a lookup takes.
 pub fn count_fits(count: usize) -> bool
@@ -29,40 +46,11 @@ pub fn count_fits(count: usize) -> bool
 
 // ---- what the lookups answer
 
-// The second candidate, if there is one.
-#[derive(Clone, Copy)]
-pub enum Second {
-    At(usize),
-    Nothing,
-}
-
 // The nearest candidate and the second, by position.
 #[derive(Clone, Copy)]
 pub struct Two {
     pub first: usize,
-    pub second: Second,
-}
-
-// The best mix so far: a position with its error where `found` is 1, nothing yet where it is 0. As a number beside the error
-// `found` leaves no gap in the record: the loop would copy a gap too, and slowly.
-#[derive(Clone, Copy)]
-pub struct Best {
-    pub found: u32,
-    pub error: f32,
-    pub position: usize,
-}
-
-impl Best {
-    // Nothing yet.
-    pub fn none() -> Self
-        ensures { result.found ≡ 0 }
-    {
-        Best {
-            found: 0,
-            error: 0.0,
-            position: 0,
-        }
-    }
+    pub second: Option<usize>,
 }
 
 // A bracket by positions.
@@ -104,34 +92,6 @@ pub struct Choice {
     pub position: usize,
 }
 
-// What `pick` answers.
-#[derive(Clone, Copy)]
-pub enum Picked {
-    Of(Choice),
-    Refused(u8),
-}
-
-// What `flat_nearest` answers.
-#[derive(Clone, Copy)]
-pub enum Found {
-    At(usize),
-    Refused(u8),
-}
-
-// What `flat_nearest_two` answers.
-#[derive(Clone, Copy)]
-pub enum FoundTwo {
-    At(Two),
-    Refused(u8),
-}
-
-// What `flat_ordered_bracket` answers.
-#[derive(Clone, Copy)]
-pub enum FoundBracket {
-    Of(Bracket),
-    Refused(u8),
-}
-
 // ---- pick
 
 // Light, if the two colours differ and its ratio exceeds the threshold; else dark.
@@ -140,7 +100,7 @@ pub fn pick_at(bracket: Bracket, threshold: f32) -> Choice
 {
     let dark = bracket.dark;
     let light = bracket.light;
-    if !same_reduced(dark, light) & (bracket.ratio > threshold) {
+    if (dark != light) & (bracket.ratio > threshold) {
         return Choice {
             color: light,
             position: bracket.light_position,
@@ -154,17 +114,15 @@ pub fn pick_at(bracket: Bracket, threshold: f32) -> Choice
 
 // The colour for column x and row y, and its position; 1 for a kind above 10, 15 for a retired one, 9 for one that has no
 // matrix, also where the colours are equal.
-pub fn pick(bracket: Bracket, kind: u32, x: u32, y: u32) -> Picked
+pub fn pick(bracket: Bracket, kind: u32, x: u32, y: u32) -> Result<Choice, Refusal>
     ensures { PickedAt bracket kind x y result }
 {
-    match ordered_threshold(kind, x, y) {
-        Thresholded::At(threshold) => Picked::Of(pick_at(bracket, threshold)),
-        Thresholded::Refused(number) => Picked::Refused(number),
-    }
+    Ok(pick_at(bracket, ordered_threshold(kind, x, y)?))
 }
 
 // ---- the lookups over flat lists: reduced and normalised bytes four an entry, Oklab floats three an entry. 3 where the
-// lengths do not fit together, 4 where there is no entry or more than 65,536, 6 where a component is not from -2 to 2.
+// lengths do not fit together, 4 where there is no entry or more than 65,536, 6 where a component is not from -2 to 2. Kept as
+// three slices, in which the C interface lends them; inside they are one `Flat`.
 
 // The position of the nearest entry.
 pub fn flat_nearest(
@@ -172,15 +130,11 @@ pub fn flat_nearest(
     normalized: &[u8],
     oklab: &[f32],
     color: NormalizedColor,
-) -> Found
+) -> Result<usize, Refusal>
     ensures { FlatNearest reduced.now normalized.now oklab.now color result }
 {
-    let refusal = list_refusal(reduced, normalized, oklab);
-    if refusal != 0 {
-        return Found::Refused(refusal);
-    }
-    let o = to_oklab(color);
-    Found::At(nearest_position(oklab, reduced.len() / 4, o.l, o.a, o.b, 0))
+    let list = Flat::new(reduced, normalized, oklab)?;
+    Ok(list.nearest(to_oklab(color)))
 }
 
 // The positions of the nearest entry and of the second.
@@ -190,14 +144,11 @@ pub fn flat_nearest_two(
     oklab: &[f32],
     color: NormalizedColor,
     width: u64,
-) -> FoundTwo
+) -> Result<Two, Refusal>
     ensures { FlatTwo reduced.now normalized.now oklab.now color width result }
 {
-    let refusal = list_refusal(reduced, normalized, oklab);
-    if refusal != 0 {
-        return FoundTwo::Refused(refusal);
-    }
-    FoundTwo::At(two_of(reduced, normalized, oklab, width, to_oklab(color), color))
+    let list = Flat::new(reduced, normalized, oklab)?;
+    Ok(list.two(width, to_oklab(color), color))
 }
 
 // The two colours that an ordered dither alternates between, and the share of the lighter.
@@ -207,12 +158,9 @@ pub fn flat_ordered_bracket(
     oklab: &[f32],
     color: NormalizedColor,
     width: u64,
-) -> FoundBracket
+) -> Result<Bracket, Refusal>
     ensures { FlatBracket reduced.now normalized.now oklab.now color width result }
 {
-    let refusal = list_refusal(reduced, normalized, oklab);
-    if refusal != 0 {
-        return FoundBracket::Refused(refusal);
-    }
-    FoundBracket::Of(bracket_of(reduced, normalized, oklab, width, to_oklab(color), color))
+    let list = Flat::new(reduced, normalized, oklab)?;
+    Ok(list.bracket(width, to_oklab(color), color))
 }

@@ -8,15 +8,16 @@ use native.Mathlib.Nat.{mul-le-mul, le_of_lt}
 use native.Mathlib.Omega.{arith}
 use lib.Dec.{T, eqb, eqb→eq}
 use mir.Facts.{or_yes}
+use Rattle.std.specs.Prelude.{Result}
 use Rattle.replies.specs.Replies.{Lowest}
-use Rattle.replies.proofs.AnswerLaws.{answers_lowest, value_promised}
+use Rattle.replies.specs.Refusals.{number_of}
+use Rattle.replies.specs.declared.Refusal.{Refusal}
+use Rattle.replies.proofs.AnswerLaws.{answers_lowest}
 use Rattle.reducing.specs.declared.Reducing.{Reducing}
 use Rattle.reducing.specs.declared.Reducing.TheVariants.{ByAlpha, Grey, OpaqueColor}
 use Rattle.reducing.specs.Reduce.{is_pairing}
-use Rattle.mixing.specs.declared.Width.{Width}
-use Rattle.mixing.specs.declared.Width.TheVariants.{Refused}
 use Rattle.mixing.specs.Widths.{is_shift, clamp_width, sixteenth, width_of}
-use Rattle.mixing.specs.Widths.{number_of, width_replies, width_answer, BracketWidthAnswered, bracket_width_of}
+use Rattle.mixing.specs.Widths.{width_replies, BracketWidthAnswered}
 
 -- ---- the shifts
 pub shift_range : (s : ℕ) → is_shift s ≡ true → (3 ≤ s) × (s ≤ 6)
@@ -78,10 +79,7 @@ pub width_high : (s m : ℕ) → width_of s m ≤ 16
 unfolding width_of
 width_high s m = omega arith
 
--- what the product of the code is, and what it is not asked for
-pub product_small : (s m : ℕ) → s ≤ 6 → m ≤ 256 → m * s ≤ 1536
-product_small s m h k = mul-le-mul k h
-
+-- the width that the code answers without the product
 pub width_full : (s m : ℕ) → 3 ≤ s → 256 < m → width_of s m ≡ 16
 unfolding width_of
 width_full s m h k = full (m * s) (mul-le-mul (le_of_lt k) h)
@@ -91,8 +89,5 @@ width_full s m h k = full (m * s) (mul-le-mul (le_of_lt k) h)
 
 -- ---- the answer
 module _ (s m : ℕ) where
-  pub width_promised : {r : Width} → r ≡ bracket_width_of s m → BracketWidthAnswered s m r
-  width_promised e = value_promised number_of (width_replies s) _ Refused refl (λ n. refl) e
-
-  pub width_lowest : {r : Width} → BracketWidthAnswered s m r → Lowest (width_replies s) (number_of r)
+  pub width_lowest : {r : Result ℕ Refusal} → BracketWidthAnswered s m r → Lowest (width_replies s) (number_of r)
   width_lowest p = answers_lowest _ _ _ tt p

@@ -7,41 +7,29 @@
 ghost use Rattle.std.specs.Prelude.{◌≡◌, true};
 ghost use Rattle.floats.specs.Bytes.{dot};
 ghost use Rattle.mixing.specs.Widths.{is_shift, clamp_width, width_of, BracketWidthAnswered};
-ghost use Rattle.mixing.specs.Lerp.{byte_minus, along, share_of, clamp_of, LerpAnswered, mix_of, mix_residual};
+ghost use Rattle.mixing.specs.Lerp.{byte_minus, along, share_of, LerpAnswered, mix_of, mix_residual};
 
 use color::NormalizedColor;
+use replies::Refusal;
 
 // ---- the width of a bracket
-
-// What `bracket_width` answers.
-#[derive(Clone, Copy)]
-pub enum Width {
-    Of(u64),
-    Refused(u8),
-}
 
 // The widest bracket.
 const MAX_BRACKET_WIDTH: u64 = 16;
 
 // Whether a shift is one of the modes'.
+#[tactic(auto, unfolding(crate::specs::Widths::is_shift))]
 fn is_shift(shift: u32) -> bool
     ensures { result ≡ is_shift shift }
 {
-    (shift == 3) | ((shift == 4) | ((shift == 5) | (shift == 6)))
+    matches!(shift, 3..=6)
 }
 
 // A width, brought to 1..16.
 pub fn clamp_width(width: u64) -> u64
     ensures { result ≡ clamp_width width }
 {
-    if width < 1 {
-        return 1;
-    }
-    if width > MAX_BRACKET_WIDTH {
-        MAX_BRACKET_WIDTH
-    } else {
-        width
-    }
+    width.clamp(1, MAX_BRACKET_WIDTH)
 }
 
 // The width for a shift. No public call: the caller sees to the shift. From 83 colours on the width is the widest, so
@@ -57,41 +45,61 @@ pub fn width_of(shift: u32, max: u64) -> u64
 }
 
 // Number of candidates to consider in `nearest_two`; another shift is refused with 1.
-pub fn bracket_width(shift: u32, max: u64) -> Width
+pub fn bracket_width(shift: u32, max: u64) -> Result<u64, Refusal>
     ensures { BracketWidthAnswered shift max result }
 {
     if is_shift(shift) {
-        return Width::Of(width_of(shift, max));
+        return Ok(width_of(shift, max));
     }
-    Width::Refused(1)
+    Err(Refusal::KindOrShift)
 }
 
 // ---- the share of a colour between two others
 
 // A byte less another.
+#[tactic(auto, unfolding(crate::specs::Lerp::byte_minus, floats::specs::Bytes::byte_f))]
 fn byte_minus(a: u8, b: u8) -> f32
     ensures { result ≡ byte_minus a b }
 {
     a as f32 - b as f32
 }
 
-fn dot(px: f32, py: f32, pz: f32, dx: f32, dy: f32, dz: f32) -> f32
-    ensures { result ≡ dot px py pz dx dy dz }
-{
-    px * dx + py * dy + pz * dz
+// How far one colour lies from another, in red, green and blue.
+#[derive(Clone, Copy)]
+struct Offset {
+    r: f32,
+    g: f32,
+    b: f32,
+}
+
+impl Offset {
+    // Of a colour from another.
+    fn between(from: NormalizedColor, to: NormalizedColor) -> Offset
+        ensures r { result.r ≡ byte_minus to.0.r from.0.r }
+        ensures g { result.g ≡ byte_minus to.0.g from.0.g }
+        ensures b { result.b ≡ byte_minus to.0.b from.0.b }
+    {
+        Offset {
+            r: byte_minus(to.0.r, from.0.r),
+            g: byte_minus(to.0.g, from.0.g),
+            b: byte_minus(to.0.b, from.0.b),
+        }
+    }
+
+    #[tactic(auto, unfolding(floats::specs::Bytes::dot))]
+    fn dot(self, other: Offset) -> f32
+        ensures { result ≡ dot self.r self.g self.b other.r other.g other.b }
+    {
+        self.r * other.r + self.g * other.g + self.b * other.b
+    }
 }
 
 // How far the colour lies from c1 in the direction of c2, times the distance of the two.
+#[tactic(auto, unfolding(crate::specs::Lerp::along))]
 fn along(c1: NormalizedColor, c2: NormalizedColor, color: NormalizedColor) -> f32
     ensures { result ≡ along c1 c2 color }
 {
-    let dx = byte_minus(c2.0.r, c1.0.r);
-    let dy = byte_minus(c2.0.g, c1.0.g);
-    let dz = byte_minus(c2.0.b, c1.0.b);
-    let px = byte_minus(color.0.r, c1.0.r);
-    let py = byte_minus(color.0.g, c1.0.g);
-    let pz = byte_minus(color.0.b, c1.0.b);
-    dot(px, py, pz, dx, dy, dz)
+    Offset::between(c1, color).dot(Offset::between(c1, c2))
 }
 
 // The share of c2 in the mix of c1 and c2 that comes nearest to the colour, not clamped.
@@ -105,26 +113,19 @@ fn share(c1: NormalizedColor, c2: NormalizedColor, color: NormalizedColor) -> f3
     along(c1, c2, color) / len2
 }
 
-// Brought to 0..1. Minus zero stays.
-fn clamp_share(t: f32) -> f32
-    ensures { result ≡ clamp_of t }
-{
-    if t < 0.0 {
-        return 0.0;
-    }
-    if t > 1.0 { 1.0 } else { t }
-}
-
+// The share of c2 in the mix of c1 and c2 that comes nearest to the colour, brought to 0..1 where that is asked for. Minus zero
+// stays.
 pub fn lerp(c1: NormalizedColor, c2: NormalizedColor, color: NormalizedColor, clamp: bool) -> f32
     ensures { LerpAnswered c1 c2 color clamp result }
 {
     let t = share(c1, c2, color);
-    if clamp { clamp_share(t) } else { t }
+    if clamp { t.clamp(0.0, 1.0) } else { t }
 }
 
 // ---- the error of a mix
 
 // c1 and c2 mixed at t, in one channel.
+#[tactic(auto, unfolding(crate::specs::Lerp::mix_of, floats::specs::Bytes::byte_f))]
 fn mix(c1: u8, c2: u8, t: f32) -> f32
     ensures { result ≡ mix_of c1 c2 t }
 {
@@ -135,8 +136,10 @@ fn mix(c1: u8, c2: u8, t: f32) -> f32
 pub fn mix_residual(a: NormalizedColor, b: NormalizedColor, t: f32, color: NormalizedColor) -> f32
     ensures { result ≡ mix_residual a b t color }
 {
-    let dr = color.0.r as f32 - mix(a.0.r, b.0.r, t);
-    let dg = color.0.g as f32 - mix(a.0.g, b.0.g, t);
-    let db = color.0.b as f32 - mix(a.0.b, b.0.b, t);
-    dot(dr, dg, db, dr, dg, db)
+    let off = Offset {
+        r: color.0.r as f32 - mix(a.0.r, b.0.r, t),
+        g: color.0.g as f32 - mix(a.0.g, b.0.g, t),
+        b: color.0.b as f32 - mix(a.0.b, b.0.b, t),
+    };
+    off.dot(off)
 }

@@ -1,10 +1,9 @@
 -- What an acceptance tells: of a size, that it has pixels and is within its bounds (`sides_accepted`). What it tells and what it takes: of a picture that is
 -- to be written, that the lengths fit its size too (`write_accepted`, `write_accepts`); of a file that is to be read, that its header is right, and its raster
--- and the buffer have the lengths (`read_accepted`, `read_accepts`). And what the writer answers where the size is refused, where the lengths are, and where
--- nothing is. Assumes nothing.
-use mathlib.Core.Path.{◌≡◌, sym, ap, ◌∙◌}
-use mathlib.Core.Bool.{true, false, not}
-use mathlib.Core.List.{List, [], ◌∷◌}
+-- and the buffer have the lengths (`read_accepted`, `read_accepts`). Assumes nothing.
+use mathlib.Core.Path.{◌≡◌, ap}
+use mathlib.Core.Bool.{false, not}
+use mathlib.Core.List.{List}
 use Prim.Native.Nat.{ℕ, ◌*◌}
 use borrow.Author.Tests.{eq-eqb}
 use lib.Dec.{eqb}
@@ -12,7 +11,7 @@ use lib.ListN.{length}
 use Rattle.lists.proofs.Bools.{or_split, equals}
 use Rattle.picture.specs.Bounds.{size_wrong}
 use Rattle.replies.specs.Replies.{Reply, ◌if◌, first_reply}
-use Rattle.replies.proofs.ReplyLaws.{reply_none, reply_zero, reply_front, reply_at}
+use Rattle.replies.proofs.ReplyLaws.{reply_none, reply_zero}
 use Rattle.pam.specs.Header.{header_wrong, width_of, height_of, depth_of, raster_of}
 use Rattle.pam.specs.Pam.{no_pixels, pam_length, raster_wrong, buffers_wrong, length_replies, read_replies, write_replies}
 
@@ -37,15 +36,8 @@ module _ (width height : ℕ) (pixels file : List ℕ) where
       let b = buffers_fit width height (length pixels) (length file) r.1.1.0 in
       (r.0, r.1.0, b.0, b.1)
 
-  -- the sizes are refused
-  pub sides_refuse : {n : ℕ} → n ≡ first_reply (length_replies width height) → (n ≡ 0 → ⊥) → n ≡ first_reply (write_replies width height pixels file)
-  sides_refuse e some = e ∙ sym (reply_front (length_replies width height) (lengths ∷ []) (λ z. some (e ∙ z)))
-
   module _ (e : first_reply (length_replies width height) ≡ 0) where
-    -- the lengths are refused, or nothing is
-    pub lengths_refuse : buffers_wrong width height (length pixels) (length file) ≡ true → first_reply (write_replies width height pixels file) ≡ 3
-    lengths_refuse w = reply_at (length_replies width height) lengths [] (reply_none (length_replies width height) tt e) w
-
+    -- nothing is refused
     pub none_refuse : buffers_wrong width height (length pixels) (length file) ≡ false → first_reply (write_replies width height pixels file) ≡ 0
     none_refuse w = let r = sides_accepted width height e in reply_zero (write_replies width height pixels file) (r.0, (r.1, (w, tt)))
 

@@ -7,7 +7,7 @@ use Prim.Native.String.{String}
 use Rattle.lists.specs.Gather.{gather}
 use Rattle.picture.specs.Bounds.{size_wrong}
 use Rattle.replies.specs.Replies.{first_reply}
-use Rattle.pam.specs.Text.{text, same_text, is_newline, is_white, is_digit, span, is_number, value_from}
+use Rattle.pam.specs.Text.{text, is_newline, is_white, is_digit, is_number, value_from}
 use Rattle.pam.specs.Lines.{lines_of, tokens}
 use Rattle.pam.specs.Header.{number_line, type_line, field_line, tokens_line, header_line, ended, said, behind_end, any_wrong, values_of, not_once}
 use Rattle.pam.specs.Header.{magic, lines_wrong, header_wrong, width_of, height_of}
@@ -20,7 +20,7 @@ rgb = text "P7\nTUPLTYPE \tRGB \nHEIGHT 1\n#WIDTH 9\n\n MAXVAL 0255\nDEPTH 3\nWI
 rgb_read : (first_reply (size_replies rgb) ≡ 0) × (width_of rgb ≡ 2) × (height_of rgb ≡ 1)
     × (pixels_of rgb ≡ 69 ∷ 78 ∷ 68 ∷ 255 ∷ 72 ∷ 68 ∷ 82 ∷ 255 ∷ [])
 unfolding
-    rgb gather pixel_at same_text is_newline is_white is_digit span is_number value_from lines_of tokens number_line type_line field_line tokens_line
+    rgb gather pixel_at is_newline is_white is_digit is_number value_from lines_of tokens number_line type_line field_line tokens_line
     header_line ended said behind_end any_wrong values_of not_once magic lines_wrong header_wrong no_pixels raster_wrong size_wrong
 rgb_read = (refl, refl, refl, refl)
 
@@ -48,7 +48,7 @@ refused =
 refused_by : map (λ (file : List ℕ). first_reply (size_replies file)) refused
     ≡ 10 ∷ 10 ∷ 10 ∷ 10 ∷ 10 ∷ 10 ∷ 10 ∷ 10 ∷ 2 ∷ 11 ∷ 11 ∷ 10 ∷ 10 ∷ []
 unfolding
-    refused one same_text is_newline is_white is_digit span is_number value_from lines_of tokens number_line type_line field_line tokens_line
+    refused one is_newline is_white is_digit is_number value_from lines_of tokens number_line type_line field_line tokens_line
     header_line ended said behind_end any_wrong values_of not_once magic lines_wrong header_wrong no_pixels raster_wrong size_wrong
 refused_by = refl
 

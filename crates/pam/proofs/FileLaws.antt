@@ -3,24 +3,22 @@
 use mathlib.Core.Path.{◌≡◌, refl, sym, ap, ◌∙◌}
 use mathlib.Core.Bool.{Bool, true, false, not, ◌||◌}
 use mathlib.Core.List.{List, [], ◌∷◌, ◌++◌}
-use Prim.Native.Nat.{ℕ, ◌*◌, ◌-◌, ◌≤◌}
+use Prim.Native.Nat.{ℕ, ◌*◌, ◌≤◌}
 use native.Mathlib.Nat.{mul-le-mul_right}
 use native.Mathlib.Omega.{arith}
 use borrow.Author.Tests.{eqb-true, eqb-false, eq-eqb, ne_eqb, ltb-true, ltb-false, lt-ltb, le-ltb}
 use lib.Dec.{eqb, ltb}
-use lib.ListN.{length, length-drop}
+use lib.ListN.{length}
 use Rattle.lists.specs.Gather.{gather}
-use Rattle.lists.proofs.Bools.{or_split, equals}
+use Rattle.lists.proofs.Bools.{equals}
 use Rattle.replies.specs.Replies.{Reply, ◌if◌, first_reply}
 use Rattle.replies.proofs.ReplyLaws.{reply_none, reply_zero, reply_front, reply_at}
 use Rattle.picture.specs.Bounds.{size_wrong}
 use Rattle.picture.proofs.BoundLaws.{sized}
-use Rattle.pam.specs.Header.{header_wrong, width_of, height_of, depth_of, raster_of}
-use Rattle.pam.specs.Pam.{no_pixels, raster_wrong, pixel_at, pixels_of, length_replies, size_replies, read_replies}
+use Rattle.pam.specs.declared.Size.{Size}
+use Rattle.pam.specs.Header.{width_of, height_of, depth_of, raster_of}
+use Rattle.pam.specs.Pam.{no_pixels, raster_wrong, pixel_at, pixels_of, length_replies, size_replies, read_replies, size_of}
 use Rattle.pam.specs.Reading.{capped, HeaderRead}
-use Rattle.pam.specs.declared.header.Header.{Header}
-use Rattle.pam.specs.declared.Size.TheVariants.{Of}
-use Rattle.pam.proofs.TextLaws.{onward, onward_is}
 use Rattle.pam.proofs.AcceptedLaws.{sides_accepted}
 
 -- ---- numbers up to the bound
@@ -52,98 +50,79 @@ capped_size w h = go (ltb 4096 w) refl (ltb 4096 h) refl
 
 -- ---- a file by its header
 
-module _ (file : List ℕ) (h : Header) (hr : HeaderRead file h) where
-  pub outside : h.raster ≡ 0 → 10 ≡ first_reply (size_replies file)
-  outside z = rw (hr.wrong ∙ eq-eqb h.raster 0 z)
+module _ (file : List ℕ) (size : Size) (depth : ℕ) (raster : List ℕ) (h : HeaderRead file size depth raster) where
+  abbrev missing : Reply
+  missing = 11 if raster_wrong file
 
-  module _ (inner : h.raster ≡ 0 → ⊥) where
-    right : header_wrong file ≡ false
-    right = hr.wrong ∙ ne_eqb h.raster 0 inner
+  -- the refusals are those of the size, then that of the raster
+  by_size : first_reply (size_replies file) ≡ first_reply (length_replies size.width size.height ++ (missing ∷ []))
+  by_size = rw (h.right, h.wide, h.high, capped_pixels (width_of file) (height_of file), capped_size (width_of file) (height_of file))
 
-    abbrev missing : Reply
-    missing = 11 if raster_wrong file
+  pub size_refused : {n : ℕ} → n ≡ first_reply (length_replies size.width size.height) → (n ≡ 0 → ⊥) → n ≡ first_reply (size_replies file)
+  size_refused e some = e ∙ sym (reply_front (length_replies size.width size.height) (missing ∷ []) (λ z. some (e ∙ z))) ∙ sym by_size
 
-    -- the refusals are those of the size, then that of the raster
-    by_size : first_reply (size_replies file) ≡ first_reply (length_replies h.width h.height ++ (missing ∷ []))
-    by_size = rw (
-      right,
-      hr.wide right,
-      hr.high right,
-      capped_pixels (width_of file) (height_of file),
-      capped_size (width_of file) (height_of file),
-    )
+  -- ---- the size is accepted
+  module _ (e : 0 ≡ first_reply (length_replies size.width size.height)) where
+    -- the header's numbers are those of the file, within their bounds
+    pub record Sized : Type 0 where
+      pub wide : size.width ≡ width_of file
+      pub high : size.height ≡ height_of file
+      pub most : size.width * size.height ≤ 1048576
+      pub bytes : depth * (size.width * size.height) ≤ 4194304
 
-    pub size_refused : {n : ℕ} → n ≡ first_reply (length_replies h.width h.height) → (n ≡ 0 → ⊥) → n ≡ first_reply (size_replies file)
-    size_refused e some = e ∙ sym (reply_front (length_replies h.width h.height) (missing ∷ []) (λ z. some (e ∙ z))) ∙ sym by_size
+    pub size_held : Sized
+    size_held =
+        let b = sized size.width size.height (sides_accepted size.width size.height (sym e)).1 in
+        record {
+          wide = omega (arith, h.wide, b.0);
+          high = omega (arith, h.high, b.1);
+          most = b.2;
+          bytes = omega (arith, mul-le-mul_right (size.width * size.height) h.samples.1, b.2);
+        }
 
-    -- ---- the size is accepted
-    module _ (e : first_reply (length_replies h.width h.height) ≡ 0) where
-      -- the header's numbers are those of the file, within their bounds
-      pub record Sized : Type 0 where
-        pub wide : h.width ≡ width_of file
-        pub high : h.height ≡ height_of file
-        pub most : h.width * h.height ≤ 1048576
-        pub bytes : h.depth * (h.width * h.height) ≤ 4194304
-        pub rest : length (raster_of file) ≡ length file - h.raster
+    same_raster : raster_wrong file ≡ not (eqb (length raster) (depth * (size.width * size.height)))
+    unfolding raster_wrong
+    same_raster = rw (h.behind, h.deep, size_held.wide, size_held.high)
 
-      pub size_held : Sized
-      size_held =
-          let b = sized h.width h.height (sides_accepted h.width h.height e).1 in
-          record {
-            wide = omega (arith, hr.wide right, b.0);
-            high = omega (arith, hr.high right, b.1);
-            most = b.2;
-            bytes = omega (arith, mul-le-mul_right (h.width * h.height) (hr.samples right).1, b.2);
-            rest = ap length (hr.behind right) ∙ length-drop h.raster file;
-          }
+    pub raster_refused : (length raster ≡ depth * (size.width * size.height) → ⊥) → 11 ≡ first_reply (size_replies file)
+    raster_refused other =
+        sym (by_size ∙ reply_at (length_replies size.width size.height) missing []
+        (reply_none (length_replies size.width size.height) tt (sym e)) (same_raster ∙ ap not (ne_eqb _ _ other)))
 
-      same_raster : raster_wrong file ≡ not (eqb (length file - h.raster) (h.depth * (h.width * h.height)))
-      unfolding raster_wrong
-      same_raster = rw (size_held.rest, hr.deep right, size_held.wide, size_held.high)
-
-      pub raster_refused : (length file - h.raster ≡ h.depth * (h.width * h.height) → ⊥) → 11 ≡ first_reply (size_replies file)
-      raster_refused other =
-          sym (by_size ∙ reply_at (length_replies h.width h.height) missing []
-          (reply_none (length_replies h.width h.height) tt e) (same_raster ∙ ap not (ne_eqb _ _ other)))
-
-      pub file_accepted : length file - h.raster ≡ h.depth * (h.width * h.height) → 0 ≡ first_reply (size_replies file)
-      file_accepted same =
-          let s = sides_accepted h.width h.height e in
-          sym (by_size ∙ reply_zero (length_replies h.width h.height ++ (missing ∷ [])) (s.0, (s.1, (same_raster ∙ ap not (eq-eqb _ _ same), tt))))
+    pub file_accepted : length raster ≡ depth * (size.width * size.height) → 0 ≡ first_reply (size_replies file)
+    file_accepted same =
+        let s = sides_accepted size.width size.height (sym e) in
+        sym (by_size ∙ reply_zero (length_replies size.width size.height ++ (missing ∷ []))
+        (s.0, (s.1, (same_raster ∙ ap not (eq-eqb _ _ same), tt))))
 
 -- ---- a file that is not refused
 
 -- its header's numbers are the file's, within their bounds, and the raster is what is left of it
-pub record Found (file : List ℕ) (h : Header) : Type 0 where
-  pub wide : h.width ≡ width_of file
-  pub high : h.height ≡ height_of file
-  pub deep : h.depth ≡ depth_of file
-  pub samples : (3 ≤ h.depth) × (h.depth ≤ 4)
-  pub most : h.width * h.height ≤ 1048576
-  pub raster : onward h.raster file ≡ raster_of file
-  pub whole : length (onward h.raster file) ≡ h.depth * (h.width * h.height)
+pub record Found (file : List ℕ) (size : Size) (depth : ℕ) (raster : List ℕ) : Type 0 where
+  pub sides : size ≡ size_of file
+  pub deep : depth ≡ depth_of file
+  pub samples : (3 ≤ depth) × (depth ≤ 4)
+  pub most : size.width * size.height ≤ 1048576
+  pub behind : raster ≡ raster_of file
+  pub whole : length raster ≡ depth * (size.width * size.height)
 
-pub found : (file : List ℕ) (h : Header) → HeaderRead file h → first_reply (size_replies file) ≡ 0 → Found file h
+pub found : (file : List ℕ) (size : Size) (depth : ℕ) (raster : List ℕ) → HeaderRead file size depth raster → 0 ≡ first_reply (size_replies file)
+    → Found file size depth raster
 unfolding raster_wrong
-found file h hr e =
-    let r = reply_none (size_replies file) tt e in
-    let right : header_wrong file ≡ false = (or_split (header_wrong file) _ r.0).0 in
+found file size depth raster h e =
+    let r = reply_none (size_replies file) tt (sym e) in
     let b = sized (width_of file) (height_of file) r.1.0 in
-    let wide : h.width ≡ width_of file = omega (arith, hr.wide right, b.0) in
-    let high : h.height ≡ height_of file = omega (arith, hr.high right, b.1) in
-    let raster : onward h.raster file ≡ raster_of file = onward_is h.raster file ∙ sym (hr.behind right) in
+    let wide : size.width ≡ width_of file = omega (arith, h.wide, b.0) in
+    let high : size.height ≡ height_of file = omega (arith, h.high, b.1) in
+    let behind : raster ≡ raster_of file = sym h.behind in
     record {
-      wide = wide;
-      high = high;
-      deep = hr.deep right;
-      samples = hr.samples right;
+      sides = λ i. record { width = wide i; height = high i };
+      deep = h.deep;
+      samples = h.samples;
       most = rw (wide, high) b.2;
-      raster = raster;
-      whole = rw (raster, hr.deep right, wide, high) (equals (length (raster_of file)) (depth_of file * (width_of file * height_of file)) r.1.1.0);
+      behind = behind;
+      whole = rw (behind, h.deep, wide, high) (equals (length (raster_of file)) (depth_of file * (width_of file * height_of file)) r.1.1.0);
     }
-
-pub size_is : {file : List ℕ} {h : Header} → Found file h → Of h.width h.height ≡ Of (width_of file) (height_of file)
-size_is f = rw (f.wide, f.high)
 
 -- ---- reading it into a buffer
 
@@ -151,21 +130,19 @@ module _ (file pixels : List ℕ) where
   abbrev room : Reply
   room = 3 if not (eqb (length pixels) (4 * (width_of file * height_of file)))
 
-  pub read_refused : {n : ℕ} → n ≡ first_reply (size_replies file) → (n ≡ 0 → ⊥) → n ≡ first_reply (read_replies file pixels)
-  read_refused e some = e ∙ sym (reply_front (size_replies file) (room ∷ []) (λ z. some (e ∙ z)))
+  module _ (size : Size) (depth : ℕ) (raster : List ℕ) (e : 0 ≡ first_reply (size_replies file)) (f : Found file size depth raster) where
+    needs : 4 * (size.width * size.height) ≡ 4 * (width_of file * height_of file)
+    needs = ap (λ (s : Size). 4 * (s.width * s.height)) f.sides
 
-  module _ (e : first_reply (size_replies file) ≡ 0) (h : Header) (f : Found file h) where
-    needs : 4 * (h.width * h.height) ≡ 4 * (width_of file * height_of file)
-    needs = rw (f.wide, f.high)
-
-    pub room_refused : (length pixels ≡ 4 * (h.width * h.height) → ⊥) → 3 ≡ first_reply (read_replies file pixels)
+    pub room_refused : (length pixels ≡ 4 * (size.width * size.height) → ⊥) → 3 ≡ first_reply (read_replies file pixels)
     room_refused other =
-        sym (reply_at (size_replies file) room [] (reply_none (size_replies file) tt e) (ap not (ne_eqb _ _ (λ same. other (same ∙ sym needs)))))
+        sym (reply_at (size_replies file) room [] (reply_none (size_replies file) tt (sym e))
+        (ap not (ne_eqb _ _ (λ same. other (same ∙ sym needs)))))
 
-    pub read_granted : length pixels ≡ 4 * (h.width * h.height) → first_reply (read_replies file pixels) ≡ 0
+    pub read_granted : length pixels ≡ 4 * (size.width * size.height) → first_reply (read_replies file pixels) ≡ 0
     read_granted same =
-        let r = reply_none (size_replies file) tt e in
+        let r = reply_none (size_replies file) tt (sym e) in
         reply_zero (read_replies file pixels) (r.0, (r.1.0, (r.1.1.0, (ap not (eq-eqb _ _ (same ∙ needs)), tt))))
 
-    pub pixels_read : gather (h.width * h.height) (pixel_at h.depth (onward h.raster file)) ≡ pixels_of file
-    pixels_read = rw (f.wide, f.high, f.deep, f.raster)
+    pub pixels_read : gather (size.width * size.height) (pixel_at depth raster) ≡ pixels_of file
+    pixels_read = λ i. gather ((f.sides i).width * (f.sides i).height) (pixel_at (f.deep i) (f.behind i))

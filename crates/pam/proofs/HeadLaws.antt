@@ -1,81 +1,65 @@
 -- The header of a file as it is read: refused for its magic number, for its lines or for its values, else what the values give. Assumes nothing.
-use mathlib.Core.Path.{◌≡◌, refl, sym, ap, ◌∙◌, subst}
-use mathlib.Core.Bool.{Bool, true, false, cond}
+use mathlib.Core.Path.{◌≡◌, refl, sym}
+use mathlib.Core.Bool.{Bool, true, false}
 use mathlib.Core.List.{List}
-use Prim.Native.Nat.{ℕ, ◌+◌, ◌<◌}
-use native.Mathlib.Omega.{arith}
-use borrow.Author.Tests.{ne_eqb}
-use lib.ListN.{length, get_or, take, drop, length-take, length-drop}
-use lib.Seq.{drop-drop}
-use Rattle.lists.proofs.Bools.{clash}
-use Rattle.pam.specs.Text.{text}
-use Rattle.pam.specs.Header.{magic, header_wrong, lines_in, the_one, values_of, said_in}
-use Rattle.pam.specs.Reading.{capped, LinesRead, no_header, values_wrong, header_from, HeaderRead}
+use Prim.Native.Nat.{ℕ}
+use lib.Dec.{eqb}
+use lib.ListN.{take, drop}
+use Rattle.std.specs.Prelude.{Option, None, Some, MatchOption}
+use Rattle.std.specs.Cmp.Lexicographic.{pointwise}
+use Rattle.pam.specs.declared.Size.{Size}
 use Rattle.pam.specs.declared.header.Header.{Header}
-use Rattle.pam.proofs.TextLaws.{onward, onward_is, other_length}
-use Rattle.pam.proofs.GivenLaws.{Right, header_right, right_header, right_values, values_right, kept, held, type_samples}
+use Rattle.pam.specs.Text.{text}
+use Rattle.pam.specs.Lines.{lines_of}
+use Rattle.pam.specs.Header.{magic, header_wrong, lines_wrong}
+use Rattle.pam.specs.Reading.{LinesRead, Whole, Broken, HeaderRead}
+use Rattle.pam.proofs.TextLaws.{same_told}
+use Rattle.pam.proofs.GivenLaws.{header_right, right_header, right_whole, whole_right, whole_wide, whole_high, whole_deep}
 
--- ---- refused
+module _ (file : List ℕ) where
+  -- ---- the magic number
 
-refused : (file : List ℕ) → header_wrong file ≡ true → HeaderRead file no_header
-refused file e = record {
-  wrong = e;
-  wide = λ f. absurd (clash e f);
-  high = λ f. absurd (clash e f);
-  deep = λ f. absurd (clash e f);
-  samples = λ f. absurd (clash e f);
-  inside = omega arith;
-  behind = λ f. absurd (clash e f);
-}
+  pub magic_told : (t : Bool) (front : List ℕ) → front ≡ text "P7\n" → pointwise eqb (take 3 file) front ≡ t → magic file ≡ t
+  unfolding magic
+  magic_told t front e p = same_told (take 3 file) front (text "P7\n") (sym p) e
 
-pub no_magic : (file : List ℕ) → magic file ≡ false → HeaderRead file no_header
-unfolding header_wrong
-no_magic file e = refused file (rw e)
-
-pub too_short : (file : List ℕ) → length file < 3 → magic file ≡ false
-unfolding magic
-too_short file h = other_length (take 3 file) (text "P7\n") (λ e. omega (arith, length-take 3 file, e))
-
-module _ (file values : List ℕ) (m : magic file ≡ true) where
-  pub no_lines : LinesRead (onward 3 file) 0 values → HeaderRead file no_header
+  pub no_magic : magic file ≡ false → header_wrong file ≡ true
   unfolding header_wrong
-  no_lines rd = refused file (rw (m, (rw (onward_is 3 file) at rd).refused refl))
+  no_magic e = rw e
 
-  -- ---- not refused by its lines
+  module _ (m : magic file ≡ true) (lines : List ℕ) (at : lines ≡ drop 3 file) where
+    -- ---- the lines
 
-  module _ (r : ℕ) (rd₀ : LinesRead (onward 3 file) r values) (some : r ≡ 0 → ⊥) where
-    pub header_is : HeaderRead file (header_from values (r + 3))
-    unfolding header_from
-    header_is = go (values_wrong values) refl (header_wrong file) refl
-      where
-        rd : LinesRead (drop 3 file) r values
-        rd = subst (λ (l : List ℕ). LinesRead l r values) (onward_is 3 file) rd₀
+    pub no_lines : lines_wrong (lines_of lines) ≡ true → header_wrong file ≡ true
+    unfolding header_wrong
+    no_lines e = rw (m, rw at at e)
 
-        turned : 3 + r ≡ r + 3
-        turned = omega arith
+    -- ---- the values
 
-        pos : 0 < r
-        pos = omega (arith, some)
+    module _ (values : List (Option ℕ)) (raster : List ℕ) (rd : LinesRead lines values raster) where
+      read : LinesRead (drop 3 file) values raster
+      read = rw at at rd
 
-        start : Header
-        start = record { width = get_or values 0 0; height = get_or values 1 0; depth = get_or values 2 0; raster = r + 3 }
+      no_values : Broken values → header_wrong file ≡ true
+      no_values broken = go (header_wrong file) refl
+        where
+          go : (t : Bool) → header_wrong file ≡ t → t ≡ true
+          go true e = refl
+          go false e = absurd (broken _ _ (right_whole file m values raster read (header_right file e)))
 
-        go : (b : Bool) → values_wrong values ≡ b → (w : Bool) → header_wrong file ≡ w → HeaderRead file (cond b no_header start)
-        go true e true f = refused file f
-        go true e false f = absurd (clash e (right_values file values r m rd pos (header_right file values r m rd pos f)))
-        go false e true f = absurd (clash f (right_header file values r m rd pos (values_right file values r m rd pos e)))
-        go false e false f =
-            let q : Right file values r m rd pos = values_right file values r m rd pos e in
-            let keeps : (name : ℕ) → name < 5 → capped (the_one (values_of name (said_in file))) ≡ get_or values name 0 =
-            λ name h. kept file values r m rd pos name h (held file values r m rd pos q name h) in
-            let few = type_samples (lines_in file) (q.once 4 (omega arith)) in
-            let deep : get_or values 2 0 ≡ the_one (values_of 2 (said_in file)) = omega (arith, few.0, few.1, q.deep, keeps 2 (omega arith)) in
-            record {
-              wrong = f ∙ sym (ne_eqb (r + 3) 0 (λ z. omega (arith, z)));
-              wide = λ _. sym (keeps 0 (omega arith));
-              high = λ _. sym (keeps 1 (omega arith));
-              deep = λ _. deep;
-              samples = λ _. (omega (arith, deep, few.0, q.deep), omega (arith, deep, few.1, q.deep));
-              inside = omega (arith, rd.inside, length-drop 3 file, some);
-              behind = λ _. rd.raster pos ∙ drop-drop r 3 file ∙ ap (λ (n : ℕ). drop n file) turned;
-            }
+      header_is : (size : Size) (depth : ℕ) → Whole values size depth → HeaderRead file size depth raster
+      header_is size depth w =
+          let deep = whole_deep file m values raster read size depth w in
+          record {
+            right = right_header file m values raster read (whole_right file m values raster read size depth w);
+            wide = whole_wide file m values raster read size depth w;
+            high = whole_high file m values raster read size depth w;
+            deep = deep.0;
+            samples = (deep.1, deep.2);
+            behind = read.behind;
+          }
+
+      pub header_told : (r : Option Header) → MatchOption r (Broken values) (λ h. Whole values h.size h.depth × (h.raster.now ≡ raster))
+          → MatchOption r (header_wrong file ≡ true) (λ h. HeaderRead file h.size h.depth h.raster.now)
+      header_told None broken = no_values broken
+      header_told (Some h) w = rw w.1 (header_is h.size h.depth w.0)

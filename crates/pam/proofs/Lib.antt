@@ -1,9 +1,14 @@
 -- The laws of `pam`: how a header is read; that its definition says what the bytes are; the raster, the written form; one result, and reading back.
+pub mod RasterLaws
+pub mod DecimalLaws
+pub mod PieceLaws
+pub mod WrittenLaws
+pub mod AcceptedLaws
+pub mod FieldLaws
 pub mod TextLaws
 pub mod TokenLaws
 pub mod LineLaws
 pub mod WordLaws
-pub mod TurnLaws
 pub mod SoFarLaws
 pub mod RefusedLaws
 pub mod ReadingLaws
@@ -15,11 +20,6 @@ pub mod MeaningLaws
 pub mod CutLaws
 pub mod OnceLaws
 pub mod SubsetLaws
-pub mod RasterLaws
-pub mod DecimalLaws
-pub mod PieceLaws
-pub mod WrittenLaws
-pub mod AcceptedLaws
 pub mod FileLaws
 pub mod Unique
 pub mod RoundTrip

@@ -2,8 +2,7 @@
 -- name one value, ends the header, or is wrong, and only one of these. Assumes nothing.
 use mathlib.Core.Path.{◌≡◌, refl, sym, ap, ◌∙◌, subst}
 use mathlib.Core.Logic.{inl, inr}
-use Prim.Native.Nat.{ℕ, ◌<◌}
-use native.Mathlib.Omega.{arith}
+use Prim.Native.Nat.{ℕ}
 use borrow.Author.Tests.{eqb-true, ne_eqb}
 use mathlib.Core.Bool.{Bool, true, false, cond}
 use mathlib.Core.List.{List, [], ◌∷◌, ◌++◌}
@@ -11,16 +10,18 @@ use lib.Dec.{T, eqb}
 use lib.ListN.{get_or}
 use Rattle.lists.specs.Order.{All}
 use Rattle.lists.proofs.Bools.{clash}
-use Rattle.pam.specs.Text.{text, same_text, is_white, is_number}
+use Rattle.pam.specs.Text.{text, same_text, is_white, is_number, value_of}
 use Rattle.pam.specs.Lines.{tokens}
 use Rattle.pam.specs.declared.header.HeaderLine.{HeaderLine}
 use Rattle.pam.specs.declared.header.HeaderLine.TheVariants.{Ignored, Value, End, Wrong}
-use Rattle.pam.specs.Header.{the_width, the_height, the_depth, the_maxval, the_tupltype, number_line, type_line, field_line, tokens_line, header_line, is_wrong}
-use Rattle.pam.specs.Subset.{Idle, Alone, Pair, Number, Samples, name_text, Gives, Says}
+use Rattle.pam.specs.declared.header.Field.{Field}
+use Rattle.pam.specs.declared.header.Field.TheVariants.{Width, Height, Depth, Maxval, TupleType}
+use Rattle.pam.specs.Header.{number_line, type_line, field_line, tokens_line, header_line, is_wrong}
+use Rattle.pam.specs.Subset.{Idle, Alone, Pair, Number, Samples, name_text, Worth, Gives, Says}
 use Rattle.pam.proofs.TextLaws.{same_text→eq}
 use Rattle.pam.proofs.TokenLaws.{is_ink}
 use Rattle.pam.proofs.PairLaws.{Token, no_token, one_token, two_tokens, white_tokens, alone_tokens, pair_tokens, cons_some}
-use Rattle.pam.proofs.NumberLaws.{number_is, number_only, number_token, samples_token, name_token, name_plain, five, all_of}
+use Rattle.pam.proofs.NumberLaws.{number_is, number_only, number_token, samples_token, name_token, name_plain, all_of}
 
 -- ---- what the bytes are, for each that `header_line` gives
 abbrev Found : List ℕ → HeaderLine → Type 0
@@ -33,28 +34,28 @@ one_of : (line : List ℕ) (t : Bool) (x y : HeaderLine) → (t ≡ true → Fou
 one_of line true x y f g = f refl
 one_of line false x y f g = g
 
-number_found : (name : ℕ) (value line : List ℕ) → name < 4 → Pair (name_text name) value line → Found line (number_line name value)
+number_found : (name : Field) (value line : List ℕ) → ((n : ℕ) → Number n value → Worth name n value) → Pair (name_text name) value line
+    → Found line (number_line name value)
 unfolding number_line
 number_found name value line h p =
-    one_of line (is_number value) _ _
-    (λ e. record { value = value; one_of_five = omega arith; pair = p; number = λ l. number_is value e; type = λ q. absurd (omega arith) }) tt
+    one_of line (is_number value) _ _ (λ e. record { value = value; pair = p; worth = h (value_of value) (number_is value e) }) tt
 
-type_found : (value line : List ℕ) → Pair (name_text the_tupltype) value line → Found line (type_line value)
+type_found : (value line : List ℕ) → Pair (name_text TupleType) value line → Found line (type_line value)
 unfolding type_line
 type_found value line p =
     one_of line (same_text value (text "RGB")) _ _ (λ e. giving 3 (inl (same_text→eq value (text "RGB") e, refl)))
     (one_of line (same_text value (text "RGB_ALPHA")) _ _ (λ e. giving 4 (inr (same_text→eq value (text "RGB_ALPHA") e, refl))) tt)
   where
-    giving : (n : ℕ) → Samples n value → Gives the_tupltype n line
-    giving n s = record { value = value; one_of_five = omega arith; pair = p; number = λ h. absurd (omega arith); type = λ q. s }
+    giving : (n : ℕ) → Samples n value → Gives TupleType n line
+    giving n s = record { value = value; pair = p; worth = s }
 
 field_found : (name value line : List ℕ) → Pair name value line → Found line (field_line name value)
 unfolding field_line
 field_found name value line p =
-    one_of line (same_text name (text "WIDTH")) _ _ (λ e. number_found the_width value line (omega arith) (named e))
-    (one_of line (same_text name (text "HEIGHT")) _ _ (λ e. number_found the_height value line (omega arith) (named e))
-    (one_of line (same_text name (text "DEPTH")) _ _ (λ e. number_found the_depth value line (omega arith) (named e))
-    (one_of line (same_text name (text "MAXVAL")) _ _ (λ e. number_found the_maxval value line (omega arith) (named e))
+    one_of line (same_text name (text "WIDTH")) _ _ (λ e. number_found Width value line (λ n h. h) (named e))
+    (one_of line (same_text name (text "HEIGHT")) _ _ (λ e. number_found Height value line (λ n h. h) (named e))
+    (one_of line (same_text name (text "DEPTH")) _ _ (λ e. number_found Depth value line (λ n h. h) (named e))
+    (one_of line (same_text name (text "MAXVAL")) _ _ (λ e. number_found Maxval value line (λ n h. h) (named e))
     (one_of line (same_text name (text "TUPLTYPE")) _ _ (λ e. type_found value line (named e)) tt))))
   where
     named : {t : List ℕ} → same_text name t ≡ true → Pair t value line
@@ -100,44 +101,39 @@ idle_only line (inl (rest, e)) = ap header_line e
 idle_only line (inr a) = white_line line a
 
 pub end_only : (line : List ℕ) → Alone (text "ENDHDR") line → header_line line ≡ End
-unfolding header_line tokens_line is_white same_text
+unfolding header_line tokens_line is_white
 end_only line a =
     let k : Token (text "ENDHDR") = (cons_some, all_of is_ink (text "ENDHDR") tt) in
     ap header_line a.whole ∙ plain a.before (text "ENDHDR") a.behind a.spaced.0 refl
     ∙ ap (λ (l : List ℕ). tokens_line (tokens l)) (sym a.whole) ∙ ap tokens_line (alone_tokens k a)
 
-number_line_lem : (name n : ℕ) (value : List ℕ) → Number n value → number_line name value ≡ Value name n
+number_line_lem : (name : Field) (n : ℕ) (value : List ℕ) → Number n value → number_line name value ≡ Value name n
 unfolding number_line
 number_line_lem name n value h = rw (number_only value h) (ap (Value name) h.value)
 
-type_line_lem : (n : ℕ) (value : List ℕ) → Samples n value → type_line value ≡ Value the_tupltype n
-unfolding type_line same_text
-type_line_lem n value (inl (e, q)) = ap type_line e ∙ ap (Value the_tupltype) (sym q)
-type_line_lem n value (inr (e, q)) = ap type_line e ∙ ap (Value the_tupltype) (sym q)
+type_line_lem : (n : ℕ) (value : List ℕ) → Samples n value → type_line value ≡ Value TupleType n
+unfolding type_line
+type_line_lem n value (inl (e, q)) = ap type_line e ∙ ap (Value TupleType) (sym q)
+type_line_lem n value (inr (e, q)) = ap type_line e ∙ ap (Value TupleType) (sym q)
 
 -- a value of the five names' is a token, and its line gives it
-Told : ℕ → Type 0
-Told name =
-    (n : ℕ) (value : List ℕ) → (name < 4 → Number n value) → (name ≡ 4 → Samples n value) → Token value × (field_line (name_text name) value ≡ Value name n)
+told : (name : Field) (n : ℕ) (value : List ℕ) → Worth name n value → Token value × (field_line (name_text name) value ≡ Value name n)
+unfolding field_line
+told Width n value h = (number_token value h, number_line_lem Width n value h)
+told Height n value h = (number_token value h, number_line_lem Height n value h)
+told Depth n value h = (number_token value h, number_line_lem Depth n value h)
+told Maxval n value h = (number_token value h, number_line_lem Maxval n value h)
+told TupleType n value h = (samples_token n value h, type_line_lem n value h)
 
-told : (name : ℕ) → name < 5 → Told name
-unfolding Told field_line same_text
-told =
-    five Told (λ n v h s. number 0 n v (h (omega arith))) (λ n v h s. number 1 n v (h (omega arith))) (λ n v h s. number 2 n v (h (omega arith)))
-    (λ n v h s. number 3 n v (h (omega arith))) (λ n v h s. (samples_token n v (s refl), type_line_lem n v (s refl)))
-  where
-    number : (name n : ℕ) (value : List ℕ) → Number n value → Token value × (number_line name value ≡ Value name n)
-    number name n value h = (number_token value h, number_line_lem name n value h)
-
-pub gives_only : (name n : ℕ) (line : List ℕ) → Gives name n line → header_line line ≡ Value name n
-unfolding tokens_line Told
+pub gives_only : (name : Field) (n : ℕ) (line : List ℕ) → Gives name n line → header_line line ≡ Value name n
+unfolding tokens_line
 gives_only name n line g =
     let p = g.pair in
-    let (k, e) = told name g.one_of_five n g.value g.number g.type in
+    let (k, e) = told name n g.value g.worth in
     ap header_line p.whole
-    ∙ plain p.before (name_text name) (p.between ++ (g.value ++ p.behind)) p.spaced.0 (name_plain name g.one_of_five)
+    ∙ plain p.before (name_text name) (p.between ++ (g.value ++ p.behind)) p.spaced.0 (name_plain name)
     ∙ ap (λ (l : List ℕ). tokens_line (tokens l)) (sym p.whole)
-    ∙ ap tokens_line (pair_tokens (name_token name g.one_of_five) k p)
+    ∙ ap tokens_line (pair_tokens (name_token name) k p)
     ∙ e
 
 -- ---- the meaning of a line

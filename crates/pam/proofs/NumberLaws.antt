@@ -1,47 +1,46 @@
 -- Numbers and names as tokens: the test for one or more digits is the declarative one, and the digits, the five names and the tuple types have no white space
 -- in them. Assumes nothing.
-use mathlib.Core.Path.{◌≡◌, refl, sym, ap, ◌∙◌, subst}
-use Prim.Native.Nat.{ℕ, zero, suc, ◌<◌, ◌≤◌}
+use mathlib.Core.Path.{◌≡◌, refl, sym, subst}
+use Prim.Native.Nat.{ℕ, ◌≤◌}
 use native.Mathlib.Omega.{arith}
-use borrow.Author.Tests.{ne_eqb, eq-eqb, eqb-true}
+use borrow.Author.Tests.{ne_eqb}
 use mathlib.Core.Logic.{inl, inr}
 use mathlib.Core.Bool.{Bool, true, false, not}
 use mathlib.Core.List.{List, [], ◌∷◌}
 use lib.Dec.{T, eqb, leb, leb→le, eqb-suc-zero}
-use lib.ListN.{length, take, get_or}
-use lib.Seq.{take-length}
+use lib.ListN.{length, get_or}
 use lib.Ieee.Fits.{and_l, and_r}
 use Rattle.lists.specs.Order.{All}
-use Rattle.lists.proofs.Bools.{clash, is_true, and_split}
+use Rattle.lists.proofs.Bools.{clash, holds, is_true, and_split}
 use Rattle.lists.proofs.Computed.{all}
-use Rattle.pam.specs.Text.{text, is_white, is_digit, span, is_number, value_of}
+use Rattle.std.specs.List.{list_all}
+use Rattle.pam.specs.declared.header.Field.{Field}
+use Rattle.pam.specs.declared.header.Field.TheVariants.{Width, Height, Depth, Maxval, TupleType}
+use Rattle.pam.specs.Text.{text, is_white, is_digit, is_number, value_of}
 use Rattle.pam.specs.Subset.{Number, Samples, name_text}
-use Rattle.pam.proofs.TextLaws.{span_all, span_pass}
 use Rattle.pam.proofs.TokenLaws.{is_ink}
 use Rattle.pam.proofs.PairLaws.{Token, cons_some}
 
 -- ---- one or more digits
+each_digit : (l : List ℕ) → list_all is_digit l ≡ true → All is_digit l
+each_digit [] e = tt
+each_digit (d ∷ ds) e = let both = and_split (is_digit d) (list_all is_digit ds) e in (holds both.0, each_digit ds both.1)
+
+all_digits : (l : List ℕ) → All is_digit l → list_all is_digit l ≡ true
+all_digits [] a = refl
+all_digits (d ∷ ds) a = rw (is_true (is_digit d) a.0, all_digits ds a.1)
+
 pub number_is : (value : List ℕ) → is_number value ≡ true → Number (value_of value) value
 unfolding is_number
 number_is [] e = absurd (clash e refl)
 number_is (d ∷ ds) e =
-    let both = and_split (not (eqb (length (d ∷ ds)) 0)) (eqb (span is_digit (d ∷ ds)) (length (d ∷ ds))) e in
-    let whole : span is_digit (d ∷ ds) ≡ length (d ∷ ds) = eqb-true (span is_digit (d ∷ ds)) (length (d ∷ ds)) both.1 in
-    record {
-      some = cons_some;
-      each = subst (All is_digit) (ap (λ (n : ℕ). take n (d ∷ ds)) whole ∙ take-length (d ∷ ds)) (span_all is_digit (d ∷ ds));
-      value = refl;
-    }
-
-span_whole : (test : ℕ → Bool) (l : List ℕ) → All test l → span test l ≡ length l
-unfolding span
-span_whole test [] a = refl
-span_whole test (b ∷ bs) a = span_pass test b bs (is_true (test b) a.0) ∙ ap suc (span_whole test bs a.1)
+    let both = and_split (not (eqb (length (d ∷ ds)) 0)) (list_all is_digit (d ∷ ds)) e in
+    record { some = cons_some; each = each_digit (d ∷ ds) both.1; value = refl }
 
 pub number_only : (value : List ℕ) {n : ℕ} → Number n value → is_number value ≡ true
 unfolding is_number
 number_only [] h = absurd (h.some refl)
-number_only (d ∷ ds) h = rw (eqb-suc-zero (length ds), eq-eqb (span is_digit (d ∷ ds)) (length (d ∷ ds)) (span_whole is_digit (d ∷ ds) h.each))
+number_only (d ∷ ds) h = rw (eqb-suc-zero (length ds)) (all_digits (d ∷ ds) h.each)
 
 -- ---- tokens
 digit_ink : (b : ℕ) → T (is_digit b) → T (is_ink b)
@@ -74,20 +73,18 @@ samples_token n value (inl (e, q)) = subst Token (sym e) (cons_some, all_of is_i
 samples_token n value (inr (e, q)) = subst Token (sym e) (cons_some, all_of is_ink (text "RGB_ALPHA") tt)
 
 -- ---- the five names
-pub five : (P : ℕ → Type 0) → P 0 → P 1 → P 2 → P 3 → P 4 → (name : ℕ) → name < 5 → P name
-five P a b c d e zero h = a
-five P a b c d e (suc zero) h = b
-five P a b c d e (suc (suc zero)) h = c
-five P a b c d e (suc (suc (suc zero))) h = d
-five P a b c d e (suc (suc (suc (suc zero)))) h = e
-five P a b c d e (suc (suc (suc (suc (suc n))))) h = absurd (omega arith)
-
-pub name_token : (name : ℕ) → name < 5 → Token (name_text name)
+pub name_token : (name : Field) → Token (name_text name)
 unfolding is_white
-name_token =
-    five (λ (name : ℕ). Token (name_text name)) (cons_some, all_of is_ink (text "WIDTH") tt) (cons_some, all_of is_ink (text "HEIGHT") tt)
-    (cons_some, all_of is_ink (text "DEPTH") tt) (cons_some, all_of is_ink (text "MAXVAL") tt) (cons_some, all_of is_ink (text "TUPLTYPE") tt)
+name_token Width = (cons_some, all_of is_ink (text "WIDTH") tt)
+name_token Height = (cons_some, all_of is_ink (text "HEIGHT") tt)
+name_token Depth = (cons_some, all_of is_ink (text "DEPTH") tt)
+name_token Maxval = (cons_some, all_of is_ink (text "MAXVAL") tt)
+name_token TupleType = (cons_some, all_of is_ink (text "TUPLTYPE") tt)
 
 -- none of them begins with #
-pub name_plain : (name : ℕ) → name < 5 → eqb (get_or (name_text name) 0 35) 35 ≡ false
-name_plain = five (λ (name : ℕ). eqb (get_or (name_text name) 0 35) 35 ≡ false) refl refl refl refl refl
+pub name_plain : (name : Field) → eqb (get_or (name_text name) 0 35) 35 ≡ false
+name_plain Width = refl
+name_plain Height = refl
+name_plain Depth = refl
+name_plain Maxval = refl
+name_plain TupleType = refl

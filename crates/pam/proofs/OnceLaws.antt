@@ -2,15 +2,16 @@
 -- nothing.
 use mathlib.Core.Path.{◌≡◌, refl, sym, ap, ◌∙◌, subst}
 use Prim.Native.Nat.{ℕ}
-use borrow.Author.Tests.{eqb-true, eq-eqb}
 use mathlib.Core.Bool.{Bool, true, false, cond}
 use mathlib.Core.List.{List, [], ◌∷◌, ◌++◌, map, tail}
 use lib.Dec.{eqb}
 use Rattle.lists.proofs.Bools.{clash}
+use Rattle.pam.specs.declared.header.Field.{Field}
 use Rattle.pam.specs.declared.header.HeaderLine.{HeaderLine}
 use Rattle.pam.specs.declared.header.HeaderLine.TheVariants.{Ignored, Value, End, Wrong}
-use Rattle.pam.specs.Header.{header_line, values_in, values_of, is_one, the_one}
+use Rattle.pam.specs.Header.{place, header_line, values_in, values_of, is_one, the_one}
 use Rattle.pam.specs.Subset.{Gives, Silent, Once}
+use Rattle.pam.proofs.FieldLaws.{same_place, own_place}
 use Rattle.pam.proofs.PairLaws.{cons_some}
 use Rattle.pam.proofs.MeaningLaws.{Means, line_means, gives_only}
 
@@ -23,10 +24,10 @@ both_empty : (xs ys : List ℕ) → xs ++ ys ≡ [] → (xs ≡ []) × (ys ≡ [
 both_empty [] ys e = (refl, e)
 both_empty (x ∷ xs) ys e = absurd (cons_some e)
 
-module _ (name : ℕ) where
+module _ (name : Field) where
   -- ---- a line
   line_gives : {n : ℕ} {line : List ℕ} → Gives name n line → values_in name (header_line line) ≡ n ∷ []
-  line_gives {n} {line} g = rw (gives_only name n line g, eq-eqb name name refl)
+  line_gives {n} {line} g = rw (gives_only name n line g, own_place name)
 
   line_silent : {line : List ℕ} → values_in name (header_line line) ≡ [] → (n : ℕ) → Gives name n line → ⊥
   line_silent e n g = cons_some (sym (line_gives g) ∙ e)
@@ -42,10 +43,10 @@ module _ (name : ℕ) where
     where
       go : (x : HeaderLine) → Means line x → Given line (values_in name x)
       go Ignored m = tt
-      go (Value given n) m = pick (eqb given name) refl
+      go (Value given n) m = pick (eqb (place given) (place name)) refl
         where
-          pick : (t : Bool) → eqb given name ≡ t → Given line (cond t (n ∷ []) [])
-          pick true q = subst (λ (x : ℕ). Gives x n line) (eqb-true given name q) m
+          pick : (t : Bool) → eqb (place given) (place name) ≡ t → Given line (cond t (n ∷ []) [])
+          pick true q = subst (λ (x : Field). Gives x n line) (same_place given name q) m
           pick false q = tt
       go End m = tt
       go Wrong m = tt

@@ -1,12 +1,12 @@
 -- Bytes written into a buffer: one piece behind another is both at once (`sets_behind`), and what is as long as the buffer is what it holds (`sets_whole`).
 -- A buffer that is written from the front, `Begun`: nothing yet, a piece more, its length. Assumes nothing.
 use mathlib.Core.Path.{◌≡◌, refl, sym, ap, ◌∙◌}
-use mathlib.Core.List.{List, [], ◌∷◌, ◌++◌, append-nil}
-use Prim.Native.Nat.{ℕ, suc, ◌+◌}
+use mathlib.Core.List.{List, [], ◌∷◌, ◌++◌, append-nil, append_assoc}
+use Prim.Native.Nat.{ℕ, suc, ◌+◌, ◌-◌, ◌≤◌}
 use native.Mathlib.Nat.{add-zero, add-suc, suc-add, zero-add}
 use native.Mathlib.Omega.{arith}
-use lib.ListN.{length, drop, set, length-append}
-use lib.Seq.{sets, sets-eq, length-sets, drop-length}
+use lib.ListN.{length, take, drop, set, length-append}
+use lib.Seq.{sets, sets-eq, drop-length, drop-drop}
 
 module _ {A : Type 0} where
   -- a piece behind another is both at once
@@ -23,6 +23,13 @@ module _ {A : Type 0} where
       ∙ ap (λ (k : ℕ). xs ++ drop k l) (zero-add (length xs) ∙ sym h)
       ∙ ap (λ (r : List A). xs ++ r) (drop-length l)
       ∙ append-nil xs
+
+  -- a piece in the place of as many
+  pub put_piece : (l xs ys : List A) (at : ℕ) → at + length xs ≤ length l → ys ≡ xs
+      → take at l ++ (ys ++ drop (at + length xs - at) (drop at l)) ≡ sets l at xs
+  put_piece l xs ys at h e =
+      let n : at + length xs - at ≡ length xs = omega arith in
+      rw (e, n, drop-drop (length xs) at l) (sym (append_assoc (take at l) xs (drop (at + length xs) l)) ∙ sym (sets-eq xs l at h))
 
   -- ---- l is d with xs written over its front, and they end at `at`
   pub record Begun (d xs : List A) (at : ℕ) (l : List A) : Type 0 where
@@ -42,6 +49,3 @@ module _ {A : Type 0} where
           ∙ ap (λ (m : List A). sets m (0 + length xs) ys) b.so_far
           ∙ sets_behind d 0 xs ys;
     }
-
-    pub begun_long : length l ≡ length d
-    begun_long = ap length b.so_far ∙ length-sets d 0 xs

@@ -9,7 +9,7 @@ use native.Mathlib.Omega.{arith}
 use lib.ListN.{length, get_or, set, take, drop, length-set, drop_of_length-le}
 use lib.Seq.{sets, sets-eq, set-set}
 use Rattle.lists.specs.Gather.{gather}
-use Rattle.lists.proofs.GatherLaws.{gather_only, filled_front}
+use Rattle.lists.proofs.GatherLaws.{gather_only}
 use Rattle.lists.proofs.FillLaws.{Filling, fill_store}
 use Rattle.pam.specs.Pam.{pixel_at}
 use Rattle.pam.specs.Reading.{samples_at}
@@ -60,15 +60,6 @@ widen_more raster d s s' i w h e =
     fill_store w (pixel_long 3 raster) (omega (arith, h))
     (ap (λ (l : List ℕ). set l (4 * (i + 1) + 3) 255) e ∙ sealed raster (set s (4 * i + 3) 255) (i + 1))
 
-pub widen_long : (raster d s : List ℕ) (i : ℕ) → Widening raster d s i → length s ≡ length d
-widen_long raster d s i w = sym (length-set s (4 * i + 3) 255) ∙ w.long
-
-pub widen_end : (raster d s : List ℕ) (i n : ℕ) → Widening raster d s i → 2 ≤ n → i ≡ n - 2
-    → take (4 * (n - 1)) (set s (4 * (n - 2) + 3) 255) ≡ gather (n - 1) (pixel_at 3 raster)
-widen_end raster d s i n w h e =
-    let next : n - 1 ≡ i + 1 = omega (arith, e) in
-    rw (next, ← e) (ap (take (4 * (i + 1))) w.so_far ∙ filled_front 4 (pixel_at 3 raster) (pixel_long 3 raster) d (i + 1))
-
 -- the last pixel behind all others
 last_pixel : (raster l : List ℕ) (k : ℕ) → length l ≡ 4 * (k + 1) → take (4 * k) l ≡ gather k (pixel_at 3 raster)
     → sets l (4 * k) (pixel_at 3 raster k) ≡ gather (k + 1) (pixel_at 3 raster)
@@ -78,6 +69,16 @@ last_pixel raster l k h e =
     sets-eq (pixel_at 3 raster k) l (4 * k) (omega (arith, long))
     ∙ rw (e, add-one k, drop_of_length-le l {i = 4 * k + length (pixel_at 3 raster k)} (omega (arith, long)))
     (append-nil (gather k (pixel_at 3 raster) ++ pixel_at 3 raster k))
+
+-- no pixel, and one
+pub no_pixel : (raster l : List ℕ) (n : ℕ) → n ≡ 0 → length l ≡ 4 * n → l ≡ gather n (pixel_at 3 raster)
+unfolding gather
+no_pixel raster [] n e h = rw e
+no_pixel raster (b ∷ bs) n e h = absurd (omega (arith, e, h))
+
+pub one_pixel : (raster l out : List ℕ) (n : ℕ) → n ≡ 1 → length l ≡ 4 * n → out ≡ sets l (4 * 0) (pixel_at 3 raster 0) → out ≡ gather n (pixel_at 3 raster)
+unfolding gather
+one_pixel raster l out n e h last = last ∙ last_pixel raster l 0 (omega (arith, e, h)) refl ∙ ap (λ (k : ℕ). gather k (pixel_at 3 raster)) (sym e)
 
 -- alpha of the last but one, and the last
 pub widen_all : (raster s l out : List ℕ) (n : ℕ) → 2 ≤ n → length s ≡ 4 * n

@@ -18,18 +18,20 @@ use Rattle.lists.proofs.OrderLaws.{all_append}
 use Rattle.lists.proofs.GatherLaws.{gather-length}
 use Rattle.picture.specs.Bounds.{size_wrong}
 use Rattle.picture.proofs.BoundLaws.{sized}
+use Rattle.std.specs.Prelude.{Result, Ok}
 use Rattle.replies.specs.Replies.{first_reply, after}
+use Rattle.replies.specs.Refusals.{number_of, answer}
+use Rattle.replies.specs.declared.Refusal.{Refusal}
 use Rattle.pam.specs.Text.{text, is_newline, is_white, is_digit}
 use Rattle.pam.specs.declared.header.HeaderLine.{HeaderLine}
 use Rattle.pam.specs.declared.header.HeaderLine.TheVariants.{Value}
-use Rattle.pam.specs.Header.{the_width, the_height, the_depth, the_maxval, the_tupltype, header_line, values_of, width_of, height_of, depth_of, raster_of}
-use Rattle.pam.specs.Subset.{Gives, Each, Says, Once, name_text, joined, PamFile}
+use Rattle.pam.specs.declared.header.Field.{Field}
+use Rattle.pam.specs.declared.header.Field.TheVariants.{Width, Height, Depth, Maxval, TupleType}
+use Rattle.pam.specs.Header.{header_line, values_of, width_of, height_of, depth_of, raster_of}
+use Rattle.pam.specs.Subset.{Number, Worth, Gives, Each, Says, Once, name_text, joined, PamFile}
 use Rattle.pam.specs.declared.Size.{Size}
-use Rattle.pam.specs.declared.Size.TheVariants.{Of}
-use Rattle.pam.specs.declared.Written.{Written}
-use Rattle.pam.specs.declared.Written.TheVariants.{Accepted}
 use Rattle.pam.specs.Pam.{decimals, decimal, header_text, pam_of, pam_length, pixel_at, pixels_of, no_pixels, read_replies, write_replies}
-use Rattle.pam.specs.Pam.{size_number, written_number, size_answer, written_answer, PamRead, PamWritten}
+use Rattle.pam.specs.Pam.{size_of, PamRead, PamWritten}
 use Rattle.pam.proofs.LineLaws.{is_part}
 use Rattle.pam.proofs.PairLaws.{cons_some}
 use Rattle.pam.proofs.NumberLaws.{all_of}
@@ -44,14 +46,13 @@ use Rattle.pam.proofs.WrittenLaws.{to_width, to_height, to_end}
 -- ---- the lines that are written: a name, a blank and a value
 
 -- a number's
-abbrev numbered : ℕ → ℕ → List ℕ
+abbrev numbered : Field → ℕ → List ℕ
 numbered name n = name_text name ++ (32 ∷ decimal n)
 
-gives_number : (name n : ℕ) → name < 4 → n < 10000 → Gives name n (numbered name n)
+gives_number : (name : Field) (n : ℕ) → (Number n (decimal n) → Worth name n (decimal n)) → n < 10000 → Gives name n (numbered name n)
 unfolding is_white
 gives_number name n h l = record {
   value = decimal n;
-  one_of_five = omega arith;
   pair = record {
     before = [];
     between = 32 ∷ [];
@@ -60,18 +61,15 @@ gives_number name n h l = record {
     apart = cons_some;
     whole = ap (λ (v : List ℕ). name_text name ++ (32 ∷ v)) (sym (append-nil (decimal n)));
   };
-  number = λ _. decimal_number n l;
-  type = λ e. absurd (omega arith);
+  worth = h (decimal_number n l);
 }
 
-gives_type : Gives the_tupltype 4 (text "TUPLTYPE RGB_ALPHA")
+gives_type : Gives TupleType 4 (text "TUPLTYPE RGB_ALPHA")
 unfolding is_white
 gives_type = record {
   value = text "RGB_ALPHA";
-  one_of_five = omega arith;
   pair = record { before = []; between = 32 ∷ []; behind = []; spaced = (tt, (tt, tt), tt); apart = cons_some; whole = refl };
-  number = λ h. absurd (omega arith);
-  type = λ _. inr (refl, refl);
+  worth = inr (refl, refl);
 }
 
 -- no byte of them is a newline
@@ -83,7 +81,7 @@ digits_parts : (ds : List ℕ) → All is_digit ds → All is_part ds
 digits_parts [] a = tt
 digits_parts (d ∷ ds) a = (digit_part d a.0, digits_parts ds a.1)
 
-number_parts : (name n : ℕ) → T (all is_part (name_text name)) → n < 10000 → All is_part (numbered name n)
+number_parts : (name : Field) (n : ℕ) → T (all is_part (name_text name)) → n < 10000 → All is_part (numbered name n)
 unfolding is_newline
 number_parts name n h l =
     all_append is_part (name_text name) (32 ∷ decimal n) (all_of is_part (name_text name) h) (tt, digits_parts (decimal n) (decimal_number n l).each)
@@ -97,50 +95,50 @@ as_lines a b c d e f = simp append_assoc
 
 module _ (width height : ℕ) (w : width < 10000) (h : height < 10000) where
   abbrev lines : List (List ℕ)
-  lines = numbered the_width width ∷ numbered the_height height ∷ text "DEPTH 4" ∷ text "MAXVAL 255" ∷ text "TUPLTYPE RGB_ALPHA" ∷ []
+  lines = numbered Width width ∷ numbered Height height ∷ text "DEPTH 4" ∷ text "MAXVAL 255" ∷ text "TUPLTYPE RGB_ALPHA" ∷ []
 
-  wide : Gives the_width width (numbered the_width width)
-  wide = gives_number the_width width (omega arith) w
+  wide : Gives Width width (numbered Width width)
+  wide = gives_number Width width (λ d. d) w
 
-  high : Gives the_height height (numbered the_height height)
-  high = gives_number the_height height (omega arith) h
+  high : Gives Height height (numbered Height height)
+  high = gives_number Height height (λ d. d) h
 
-  deep : Gives the_depth 4 (text "DEPTH 4")
+  deep : Gives Depth 4 (text "DEPTH 4")
   unfolding decimal decimals
-  deep = gives_number the_depth 4 (omega arith) (omega arith)
+  deep = gives_number Depth 4 (λ d. d) (omega arith)
 
-  most : Gives the_maxval 255 (text "MAXVAL 255")
+  most : Gives Maxval 255 (text "MAXVAL 255")
   unfolding decimal decimals
-  most = gives_number the_maxval 255 (omega arith) (omega arith)
+  most = gives_number Maxval 255 (λ d. d) (omega arith)
 
   -- what they say
   abbrev meanings : List HeaderLine
-  meanings = Value the_width width ∷ Value the_height height ∷ Value the_depth 4 ∷ Value the_maxval 255 ∷ Value the_tupltype 4 ∷ []
+  meanings = Value Width width ∷ Value Height height ∷ Value Depth 4 ∷ Value Maxval 255 ∷ Value TupleType 4 ∷ []
 
   said_is : map header_line lines ≡ meanings
   said_is =
-      λ i. gives_only the_width width _ wide i
-      ∷ gives_only the_height height _ high i
-      ∷ gives_only the_depth 4 _ deep i
-      ∷ gives_only the_maxval 255 _ most i
-      ∷ gives_only the_tupltype 4 _ gives_type i
+      λ i. gives_only Width width _ wide i
+      ∷ gives_only Height height _ high i
+      ∷ gives_only Depth 4 _ deep i
+      ∷ gives_only Maxval 255 _ most i
+      ∷ gives_only TupleType 4 _ gives_type i
       ∷ []
 
-  once : (name n : ℕ) → values_of name meanings ≡ n ∷ [] → Once name n lines
+  once : (name : Field) (n : ℕ) → values_of name meanings ≡ n ∷ [] → Once name n lines
   once name n e = once_is name n lines (ap (values_of name) said_is ∙ e)
 
   all_say : Each Says lines
   all_say = (
-    inr (the_width, width, wide),
-    (inr (the_height, height, high), (inr (the_depth, 4, deep), (inr (the_maxval, 255, most), (inr (the_tupltype, 4, gives_type), tt)))),
+    inr (Width, width, wide),
+    (inr (Height, height, high), (inr (Depth, 4, deep), (inr (Maxval, 255, most), (inr (TupleType, 4, gives_type), tt)))),
   )
 
   all_lone : Each (All is_part) lines
   unfolding is_newline
   all_lone = (
-    number_parts the_width width tt w,
+    number_parts Width width tt w,
     (
-      number_parts the_height height tt h,
+      number_parts Height height tt h,
       (all_of is_part (text "DEPTH 4") tt, (all_of is_part (text "MAXVAL 255") tt, (all_of is_part (text "TUPLTYPE RGB_ALPHA") tt, tt))),
     ),
   )
@@ -161,11 +159,11 @@ module _ (width height : ℕ) (w : width < 10000) (h : height < 10000) where
     lone = (all_lone, all_of is_part (text "ENDHDR") tt);
     says = all_say;
     ends = record { before = []; behind = []; spaced = (tt, tt); whole = refl };
-    wide = once the_width width refl;
-    high = once the_height height refl;
-    deep = once the_depth 4 refl;
-    most = once the_maxval 255 refl;
-    samples = once the_tupltype 4 refl;
+    wide = once Width width refl;
+    high = once Height height refl;
+    deep = once Depth 4 refl;
+    most = once Maxval 255 refl;
+    samples = once TupleType 4 refl;
   }
 
 pub written : (width height : ℕ) → size_wrong width height ≡ false → (pixels : List ℕ) → PamFile (pam_of width height pixels) width height 4 pixels
@@ -221,33 +219,42 @@ module _ (file lent : List ℕ) (e : first_reply (read_replies file lent) ≡ 0)
 
 -- ---- the same of the calls' results
 
+-- what is answered
+abbrev Told : Type 0
+Told = Result (Unit {0}) Refusal
+
+abbrev sides : (width height : ℕ) → Size
+sides width height = record { width = width; height = height }
+
 -- an accepted file's size and pixels are what is read of it
-read_so : {file lent pixels : List ℕ} {r : Size} → PamRead file lent r pixels → first_reply (read_replies file lent) ≡ 0
-    → (r ≡ Of (width_of file) (height_of file)) × (pixels ≡ pixels_of file)
+read_so : {file lent pixels : List ℕ} {r : Result Size Refusal} → PamRead file lent r pixels → first_reply (read_replies file lent) ≡ 0
+    → (r ≡ Ok (size_of file)) × (pixels ≡ pixels_of file)
 read_so {file} {lent} {r = r} p e =
-    let z : size_number r ≡ 0 = p.answer.number ∙ e in
-    (p.answer.answer ∙ ap (size_answer file) z, p.picture ∙ ap (λ (n : ℕ). after n (pixels_of file) lent) z)
+    let z : number_of r ≡ 0 = p.answer.number ∙ e in
+    (p.answer.answer ∙ ap (answer (size_of file)) z, p.picture ∙ ap (λ (n : ℕ). after n (pixels_of file) lent) z)
 
 -- what `write_pam` accepts, `read_pam` reads
-pub calls_back : (width height : ℕ) (pixels file₀ file lent got : List ℕ) (r : Written) (s : Size) → PamWritten width height pixels file₀ r file
-    → written_number r ≡ 0 → length lent ≡ 4 * (width * height) → PamRead file lent s got → (s ≡ Of width height) × (got ≡ pixels)
+pub calls_back : (width height : ℕ) (pixels file₀ file lent got : List ℕ) (r : Told) (s : Result Size Refusal) → PamWritten width height pixels file₀ r file
+    → number_of r ≡ 0 → length lent ≡ 4 * (width * height) → PamRead file lent s got → (s ≡ Ok (sides width height)) × (got ≡ pixels)
 calls_back width height pixels file₀ file lent got r s p z room q =
     let whole : file ≡ pam_of width height pixels = p.whole ∙ ap (λ (n : ℕ). after n (pam_of width height pixels) file₀) z in
     let (a, w, h, same) = read_back width height pixels file₀ (sym p.answer.number ∙ z) lent room in
     let (answer, picture) = read_so (subst (λ (f : List ℕ). PamRead f lent s got) whole q) a in
-    (answer ∙ (λ i. Of (w i) (h i)), picture ∙ same)
+    (answer ∙ (λ i. Ok (sides (w i) (h i))), picture ∙ same)
 
 -- what `read_pam` accepts, `write_pam` accepts, and `read_pam` reads again
-pub calls_again : (file lent pixels : List ℕ) (width height : ℕ) → PamRead file lent (Of width height) pixels → (out₀ out : List ℕ) (r : Written)
+pub calls_again : (file lent pixels : List ℕ) (width height : ℕ) → PamRead file lent (Ok (sides width height)) pixels → (out₀ out : List ℕ) (r : Told)
     → length out₀ ≡ pam_length width height → PamWritten width height pixels out₀ r out
-    → (r ≡ Accepted)
-    × ((lent' got : List ℕ) (s : Size) → length lent' ≡ 4 * (width * height) → PamRead out lent' s got → (s ≡ Of width height) × (got ≡ pixels))
+    → (r ≡ Ok tt)
+    × ((lent' got : List ℕ) (s : Result Size Refusal) → length lent' ≡ 4 * (width * height) → PamRead out lent' s got
+    → (s ≡ Ok (sides width height)) × (got ≡ pixels))
 calls_again file lent pixels width height p out₀ out r l q =
     let e : first_reply (read_replies file lent) ≡ 0 = sym p.answer.number in
     let (size, ep) = read_so p e in
-    let ew : width ≡ width_of file = cc in
-    let eh : height ≡ height_of file = cc in
+    let same : sides width height ≡ size_of file = cc in
+    let ew : width ≡ width_of file = ap (λ (s : Size). s.width) same in
+    let eh : height ≡ height_of file = ap (λ (s : Size). s.height) same in
     let a : first_reply (write_replies width height pixels out₀) ≡ 0 =
     (λ i. first_reply (write_replies (ew i) (eh i) (ep i) out₀)) ∙ write_again file lent e out₀ (l ∙ (λ i. pam_length (ew i) (eh i))) in
-    let z : written_number r ≡ 0 = q.answer.number ∙ a in
-    (q.answer.answer ∙ ap written_answer z, λ lent' got s room t. calls_back width height pixels out₀ out lent' got r s q z room t)
+    let z : number_of r ≡ 0 = q.answer.number ∙ a in
+    (q.answer.answer ∙ ap (answer tt) z, λ lent' got s room t. calls_back width height pixels out₀ out lent' got r s q z room t)

@@ -12,7 +12,9 @@ use Rattle.lists.proofs.Bools.{clash, or_split, equals}
 use Rattle.pam.specs.Text.{text, same_text}
 use Rattle.pam.specs.declared.header.HeaderLine.{HeaderLine}
 use Rattle.pam.specs.declared.header.HeaderLine.TheVariants.{Ignored, Value, End, Wrong}
-use Rattle.pam.specs.Header.{the_width, the_height, the_depth, the_maxval, the_tupltype, header_line, is_end, ended}
+use Rattle.pam.specs.declared.header.Field.{Field}
+use Rattle.pam.specs.declared.header.Field.TheVariants.{Width, Height, Depth, Maxval, TupleType}
+use Rattle.pam.specs.Header.{header_line, is_end, ended}
 use Rattle.pam.specs.Header.{is_wrong, any_wrong, values_of, is_one, the_one, not_once, magic, lines_in, said_in, value_in, lines_wrong}
 use Rattle.pam.specs.Header.{header_wrong, width_of, height_of, depth_of, raster_of}
 use Rattle.pam.specs.Subset.{Alone, Says, Each, Once, joined, PamFile}
@@ -43,7 +45,7 @@ module _ {file raster : List ℕ} {w h d : ℕ} (p : PamFile file w h d raster) 
   pam_said : said_in file ≡ map header_line p.lines
   pam_said = (cut_only pam_cut).1
 
-  pam_values : {name n : ℕ} → Once name n p.lines → values_of name (said_in file) ≡ n ∷ []
+  pam_values : {name : Field} {n : ℕ} → Once name n p.lines → values_of name (said_in file) ≡ n ∷ []
   pam_values {name} {n} o = ap (values_of name) pam_said ∙ once_only name o
 
   pam_magic : magic file ≡ true
@@ -109,22 +111,22 @@ none_of t (u ∷ us) e = let (p, q) = or_split t (any_of u us) e in (p, none_of 
 
 module _ (file : List ℕ) (e : header_wrong file ≡ false) where
   file_tests : NoneOf (not (magic file))
-      (lines_wrong (lines_in file) ∷ not (eqb (value_in the_maxval file) 255) ∷ not (eqb (value_in the_depth file) (value_in the_tupltype file)) ∷ [])
+      (lines_wrong (lines_in file) ∷ not (eqb (value_in Maxval file) 255) ∷ not (eqb (value_in Depth file) (value_in TupleType file)) ∷ [])
   unfolding header_wrong
   file_tests =
       none_of (not (magic file))
-      (lines_wrong (lines_in file) ∷ not (eqb (value_in the_maxval file) 255) ∷ not (eqb (value_in the_depth file) (value_in the_tupltype file)) ∷ []) e
+      (lines_wrong (lines_in file) ∷ not (eqb (value_in Maxval file) 255) ∷ not (eqb (value_in Depth file) (value_in TupleType file)) ∷ []) e
 
   line_tests : NoneOf (not (ended (lines_in file))) (any_wrong (said_in file) ∷ not_once (said_in file) ∷ [])
   unfolding lines_wrong
   line_tests = none_of (not (ended (lines_in file))) (any_wrong (said_in file) ∷ not_once (said_in file) ∷ []) file_tests.1.0
 
-  abbrev twice : ℕ → Bool
+  abbrev twice : Field → Bool
   twice name = not (is_one (values_of name (said_in file)))
 
-  name_tests : NoneOf (twice the_width) (twice the_height ∷ twice the_depth ∷ twice the_maxval ∷ twice the_tupltype ∷ [])
+  name_tests : NoneOf (twice Width) (twice Height ∷ twice Depth ∷ twice Maxval ∷ twice TupleType ∷ [])
   unfolding not_once
-  name_tests = none_of (twice the_width) (twice the_height ∷ twice the_depth ∷ twice the_maxval ∷ twice the_tupltype ∷ []) line_tests.1.1
+  name_tests = none_of (twice Width) (twice Height ∷ twice Depth ∷ twice Maxval ∷ twice TupleType ∷ []) line_tests.1.1
 
   begins : file ≡ text "P7\n" ++ drop 3 file
   unfolding magic
@@ -136,7 +138,7 @@ module _ (file : List ℕ) (e : header_wrong file ≡ false) where
   pam_is =
       let (lines, last, raster, c) = cut_is (drop 3 file) (not-false (ended (lines_in file)) line_tests.0) in
       let (ending, tells, left) = cut_only c in
-      let once : (name : ℕ) → twice name ≡ false → Once name (value_in name file) lines = λ name n.
+      let once : (name : Field) → twice name ≡ false → Once name (value_in name file) lines = λ name n.
       once_is name (value_in name file) lines
       (ap (values_of name) (sym tells) ∙ one_value (values_of name (said_in file)) (not-false (is_one (values_of name (said_in file))) n)) in
       record {
@@ -146,12 +148,12 @@ module _ (file : List ℕ) (e : header_wrong file ≡ false) where
         lone = c.lone;
         says = all_say lines c.goes (ap any_wrong (sym tells) ∙ line_tests.1.0);
         ends = end_alone last c.ends;
-        wide = once the_width name_tests.0;
-        high = once the_height name_tests.1.0;
-        deep = once the_depth name_tests.1.1.0;
-        most = subst (λ (n : ℕ). Once the_maxval n lines) (equals (value_in the_maxval file) 255 file_tests.1.1.0) (once the_maxval name_tests.1.1.1.0);
-        samples = subst (λ (n : ℕ). Once the_tupltype n lines)
-            (sym (equals (value_in the_depth file) (value_in the_tupltype file) file_tests.1.1.1)) (once the_tupltype name_tests.1.1.1.1);
+        wide = once Width name_tests.0;
+        high = once Height name_tests.1.0;
+        deep = once Depth name_tests.1.1.0;
+        most = subst (λ (n : ℕ). Once Maxval n lines) (equals (value_in Maxval file) 255 file_tests.1.1.0) (once Maxval name_tests.1.1.1.0);
+        samples = subst (λ (n : ℕ). Once TupleType n lines)
+            (sym (equals (value_in Depth file) (value_in TupleType file) file_tests.1.1.1)) (once TupleType name_tests.1.1.1.1);
       }
 
 -- ---- a file has at most one size, depth and raster

@@ -1,15 +1,21 @@
 -- Tokens: white space before them counts for nothing, and the longest run of other bytes is the first of them. Assumes nothing.
 use mathlib.Core.Path.{◌≡◌, refl, sym, ap, ◌∙◌}
-use mathlib.Core.Bool.{Bool, true, false, cond, not}
-use mathlib.Core.List.{List, [], ◌∷◌, ◌++◌}
-use Prim.Native.Nat.{ℕ, zero, suc}
+use mathlib.Core.Bool.{Bool, true, false, not}
+use mathlib.Core.List.{List, [], ◌∷◌, ◌++◌, append-nil}
+use Prim.Native.Nat.{ℕ, suc}
+use borrow.Author.Tests.{not-false}
+use lib.Dec.{T}
 use native.Mathlib.Omega.{arith}
-use lib.ListN.{length, take, drop, take-append-drop, length-drop, drop_of_length-le}
+use lib.ListN.{length, get_or, take, drop, take-append-drop}
+use lib.Seq.{drop-cons}
+use Rattle.std.specs.Prelude.{None, Some, position}
+use Rattle.std.specs.List.{position_or_len}
+use Rattle.std.specs.Option.{unwrap_or}
 use Rattle.lists.specs.Order.{All}
-use Rattle.lists.proofs.Bools.{is_true, is_false, holds}
-use Rattle.pam.specs.Text.{is_white, of_sort, span}
+use Rattle.lists.proofs.Bools.{is_true, is_false, holds, fails}
+use Rattle.pam.specs.Text.{is_white}
 use Rattle.pam.specs.Lines.{in_token, onto_token, tokens}
-use Rattle.pam.proofs.TextLaws.{onward, onward_is, span-le, span_pass, span_all, span_stops}
+use Rattle.pam.proofs.TextLaws.{onward, onward_is, fails_before, passes_then, first_or_length, none_passes, one_passes}
 
 -- a byte of a token
 abbrev pub is_ink : ℕ → Bool
@@ -33,74 +39,50 @@ first_token b (x ∷ t) l a e =
 
 -- ---- the tokens of a line as its reader finds them: past the white space at its front, up to the next white space
 
--- no token goes on behind the bytes of one
-ink_ends : (l : List ℕ) → in_token (drop (span (of_sort 1) l) l) ≡ false
-ink_ends l = go (drop (span (of_sort 1) l) l) (span_stops (of_sort 1) l)
+-- bytes that are none of a token's
+all_white : (l : List ℕ) → All (λ b. not (is_ink b)) l → All is_white l
+all_white [] a = tt
+all_white (b ∷ bs) a = (holds (white b a.0), all_white bs a.1)
   where
-    go : (d : List ℕ) → ((b : ℕ) (rest : List ℕ) → d ≡ b ∷ rest → of_sort 1 b ≡ false) → in_token d ≡ false
-    go [] stops = refl
-    go (b ∷ rest) stops = stops b rest refl
+    white : (b : ℕ) → T (not (is_ink b)) → is_white b ≡ true
+    white b h = not-false (is_white b) (is_false (is_ink b) h)
 
--- the bytes up to the next white space are the first token, where there are any
-first_run : (l : List ℕ) → (span (of_sort 1) l ≡ 0 → ⊥) → tokens l ≡ take (span (of_sort 1) l) l ∷ tokens (drop (span (of_sort 1) l) l)
-unfolding span
-first_run [] some = absurd (some refl)
-first_run (b ∷ bs) some = go (not (is_white b)) refl some
+only_white : (l : List ℕ) → All is_white l → tokens l ≡ []
+unfolding tokens
+only_white l a = ap tokens (sym (append-nil l)) ∙ skip_white l [] a ∙ none
   where
-    go : (t : Bool) → not (is_white b) ≡ t → (cond t (suc (span (of_sort 1) bs)) 0 ≡ 0 → ⊥)
-        → tokens (b ∷ bs) ≡ take (cond t (suc (span (of_sort 1) bs)) 0) (b ∷ bs) ∷ tokens (drop (cond t (suc (span (of_sort 1) bs)) 0) (b ∷ bs))
-    go true e some =
-        ap (λ (r : List ℕ). tokens (b ∷ r)) (sym (take-append-drop (span (of_sort 1) bs) bs))
-        ∙ first_token b (take (span (of_sort 1) bs) bs) (drop (span (of_sort 1) bs) bs) (holds e, span_all (of_sort 1) bs) (ink_ends bs)
-    go false e some = absurd (some refl)
+    none : tokens [] ≡ []
+    none = refl
 
--- where there is no token, no byte of one stands in front
-first_none : (l : List ℕ) → tokens l ≡ [] → span (of_sort 1) l ≡ 0
-first_none l none = go (span (of_sort 1) l) refl
+-- a byte of a token: with those up to the next white space it is the first token
+first_run : (b : ℕ) (bs : List ℕ) → is_white b ≡ false
+    → tokens (b ∷ bs) ≡ take (position_or_len is_white (b ∷ bs)) (b ∷ bs) ∷ tokens (drop (position_or_len is_white (b ∷ bs)) (b ∷ bs))
+first_run b bs e = go (position_or_len is_white (b ∷ bs)) (rw e (omega arith))
   where
-    go : (n : ℕ) → span (of_sort 1) l ≡ n → span (of_sort 1) l ≡ 0
-    go zero e = e
-    go (suc n) e =
-        let t : tokens l ≡ take (span (of_sort 1) l) l ∷ tokens (drop (span (of_sort 1) l) l) = first_run l (λ z. omega (arith, e, z)) in
-        let z : ◌≡◌ {A = ℕ} 0 1 = cc in
-        absurd (omega arith)
+    stops : (d : List ℕ) → ((c : ℕ) (rest : List ℕ) → d ≡ c ∷ rest → is_white c ≡ true) → in_token d ≡ false
+    stops [] s = refl
+    stops (c ∷ rest) s = ap not (s c rest refl)
 
--- behind white space there is a token, or nothing
-no_run : (l : List ℕ) → ((b : ℕ) (rest : List ℕ) → l ≡ b ∷ rest → of_sort 0 b ≡ false) → span (of_sort 1) l ≡ 0 → l ≡ []
-no_run [] stops e = refl
-no_run (b ∷ rest) stops e = absurd (omega (arith, e, span_pass (of_sort 1) b rest (ap not (stops b rest refl))))
+    go : (m : ℕ) → m ≡ suc (position_or_len is_white bs) → tokens (b ∷ bs) ≡ take m (b ∷ bs) ∷ tokens (drop m (b ∷ bs))
+    go m more =
+        rw more
+        (ap (λ (r : List ℕ). tokens (b ∷ r)) (sym (take-append-drop (position_or_len is_white bs) bs))
+        ∙ first_token b (take (position_or_len is_white bs) bs) (drop (position_or_len is_white bs) bs) (fails e, fails_before is_white bs)
+        (stops (drop (position_or_len is_white bs) bs) (passes_then is_white bs)))
 
--- white space at the front, from which the line goes on at `start`
-module _ (line : List ℕ) (start : ℕ) (at : start ≡ span (of_sort 0) line) where
-  past_white : tokens line ≡ tokens (onward start line)
-  past_white =
-      ap tokens (sym (take-append-drop (span (of_sort 0) line) line))
-      ∙ skip_white (take (span (of_sort 0) line) line) (drop (span (of_sort 0) line) line) (span_all (of_sort 0) line)
-      ∙ ap tokens (ap (λ (s : ℕ). drop s line) (sym at) ∙ sym (onward_is start line))
+module _ (line : List ℕ) where
+  pub no_token_left : position is_ink line ≡ None → tokens line ≡ []
+  no_token_left e = only_white line (all_white line (none_passes is_ink line e))
 
-  onward_stops : (b : ℕ) (rest : List ℕ) → onward start line ≡ b ∷ rest → of_sort 0 b ≡ false
-  onward_stops b rest e = span_stops (of_sort 0) line b rest (ap (λ (s : ℕ). drop s line) (sym at) ∙ sym (onward_is start line) ∙ e)
-
-  -- what is found there: `size` bytes up to the next white space
-  module _ (size : ℕ) (long : size ≡ span (of_sort 1) (onward start line)) where
-    pub no_tokens : size ≡ 0 → tokens line ≡ []
-    unfolding tokens
-    no_tokens e = past_white ∙ ap tokens (no_run (onward start line) onward_stops (sym long ∙ e))
-
-    pub some_tokens : (size ≡ 0 → ⊥) → tokens line ≡ take size (onward start line) ∷ tokens (onward size (onward start line))
-    some_tokens some =
-        past_white
-        ∙ first_run (onward start line) (λ e. some (long ∙ e))
-        ∙ rw (← long) (ap (λ (r : List ℕ). take size (onward start line) ∷ tokens r) (sym (onward_is size (onward start line))))
-
-  -- white space and nothing else
-  pub all_white : start ≡ length line → tokens line ≡ []
-  unfolding tokens
-  all_white e = past_white ∙ ap tokens (onward_is start line ∙ drop_of_length-le line {i = start} (omega (arith, e)))
-
-  -- something else: there is a token
-  pub not_white : (start ≡ length line → ⊥) → tokens line ≡ [] → ⊥
-  not_white other none =
-      let from : List ℕ = onward start line in
-      let z : span (of_sort 1) from ≡ 0 = first_none from (sym past_white ∙ none) in
-      omega (arith, span-le (of_sort 0) line, length-drop start line, ap length (onward_is start line), ap length (no_run from onward_stops z))
+  pub next_token_is : (start size : ℕ) → position is_ink line ≡ Some start
+      → size ≡ unwrap_or (position is_white (onward start line)) (length (onward start line))
+      → tokens line ≡ take size (onward start line) ∷ tokens (drop size (onward start line))
+  next_token_is start size e f =
+      let (same, within) = one_passes is_ink line start e in
+      let long : size ≡ position_or_len is_white (drop start line) = f ∙ first_or_length is_white (onward start line) ∙ ap (position_or_len is_white) (onward_is start line) in
+      let d : drop start line ≡ get_or line start 0 ∷ drop (suc start) line = drop-cons line start 0 within in
+      let ink : is_white (get_or line start 0) ≡ false =
+      is_false (is_white (get_or line start 0)) (holds (passes_then is_ink line _ _ (ap (λ (n : ℕ). drop n line) (sym same) ∙ d))) in
+      ap tokens (sym (take-append-drop start line))
+      ∙ skip_white (take start line) (drop start line) (rw same (all_white _ (fails_before is_ink line)))
+      ∙ rw (onward_is start line, long, d) (first_run (get_or line start 0) (drop (suc start) line) ink)

@@ -4,44 +4,38 @@
 use Rattle.std.specs.Prelude.{ℕ, Bool, true, false, cond, not, ◌||◌, List, [], ◌∷◌, ◌++◌, eqb, take, drop}
 use Rattle.pam.specs.Text.{text, same_text, is_number, value_of}
 use Rattle.pam.specs.Lines.{Line, lines_of, tokens}
+use Rattle.pam.specs.declared.header.Field.{Field}
+use Rattle.pam.specs.declared.header.Field.TheVariants.{Width, Height, Depth, Maxval, TupleType}
 use Rattle.pam.specs.declared.header.HeaderLine.{HeaderLine}
 use Rattle.pam.specs.declared.header.HeaderLine.TheVariants.{Ignored, Value, End, Wrong}
 
 -- ---- what a line says: nothing, a value for one of five names, that the header ends; or it is wrong
 
--- the five names, as numbers
-abbrev pub the_width : ℕ
-the_width = 0
-
-abbrev pub the_height : ℕ
-the_height = 1
-
-abbrev pub the_depth : ℕ
-the_depth = 2
-
-abbrev pub the_maxval : ℕ
-the_maxval = 3
-
-abbrev pub the_tupltype : ℕ
-the_tupltype = 4
+-- a name's place among the five
+abbrev pub place : Field → ℕ
+place Width = 0
+place Height = 1
+place Depth = 2
+place Maxval = 3
+place TupleType = 4
 
 -- "The second token is a decimal number"
-unfoldable pub number_line : ℕ → List ℕ → HeaderLine
+unfoldable pub number_line : Field → List ℕ → HeaderLine
 number_line name value = cond (is_number value) (Value name (value_of value)) Wrong
 
 -- a tuple type of the subset, as the number of its samples
 unfoldable pub type_line : List ℕ → HeaderLine
 type_line value =
-    cond (same_text value (text "RGB")) (Value the_tupltype 3) (cond (same_text value (text "RGB_ALPHA")) (Value the_tupltype 4) Wrong)
+    cond (same_text value (text "RGB")) (Value TupleType 3) (cond (same_text value (text "RGB_ALPHA")) (Value TupleType 4) Wrong)
 
 -- "The type of header line is identified by its first token". RGB and RGB_ALPHA have no white space in them, so a tuple type of the subset, which is the
 -- rest of the line without white space around it, is the second token and the last (proofs/PairLaws, `two_tokens`, `pair_tokens`)
 unfoldable pub field_line : (name value : List ℕ) → HeaderLine
 field_line name value =
-    cond (same_text name (text "WIDTH")) (number_line the_width value)
-    (cond (same_text name (text "HEIGHT")) (number_line the_height value)
-    (cond (same_text name (text "DEPTH")) (number_line the_depth value)
-    (cond (same_text name (text "MAXVAL")) (number_line the_maxval value)
+    cond (same_text name (text "WIDTH")) (number_line Width value)
+    (cond (same_text name (text "HEIGHT")) (number_line Height value)
+    (cond (same_text name (text "DEPTH")) (number_line Depth value)
+    (cond (same_text name (text "MAXVAL")) (number_line Maxval value)
     (cond (same_text name (text "TUPLTYPE")) (type_line value) Wrong))))
 
 -- "A header line which has zero tokens is valid but has no meaning"; ENDHDR stands alone; the others have one value
@@ -93,13 +87,13 @@ any_wrong [] = false
 any_wrong (x ∷ xs) = is_wrong x || any_wrong xs
 
 -- all values that a name is given, in order
-abbrev pub values_in : ℕ → HeaderLine → List ℕ
+abbrev pub values_in : Field → HeaderLine → List ℕ
 values_in name Ignored = []
-values_in name (Value given n) = cond (eqb given name) (n ∷ []) []
+values_in name (Value given n) = cond (eqb (place given) (place name)) (n ∷ []) []
 values_in name End = []
 values_in name Wrong = []
 
-unfoldable pub values_of : ℕ → List HeaderLine → List ℕ
+unfoldable pub values_of : Field → List HeaderLine → List ℕ
 values_of name [] = []
 values_of name (x ∷ xs) = values_in name x ++ values_of name xs
 
@@ -116,9 +110,9 @@ the_one (n ∷ more) = n
 -- "The header must contain exactly one of these header lines", and one TUPLTYPE
 unfoldable pub not_once : List HeaderLine → Bool
 not_once xs =
-    not (is_one (values_of the_width xs))
-    || (not (is_one (values_of the_height xs))
-    || (not (is_one (values_of the_depth xs)) || (not (is_one (values_of the_maxval xs)) || not (is_one (values_of the_tupltype xs)))))
+    not (is_one (values_of Width xs))
+    || (not (is_one (values_of Height xs))
+    || (not (is_one (values_of Depth xs)) || (not (is_one (values_of Maxval xs)) || not (is_one (values_of TupleType xs)))))
 
 -- ---- a file
 
@@ -134,7 +128,7 @@ abbrev pub said_in : List ℕ → List HeaderLine
 said_in file = said (lines_in file)
 
 -- the value of a name
-abbrev pub value_in : ℕ → List ℕ → ℕ
+abbrev pub value_in : Field → List ℕ → ℕ
 value_in name file = the_one (values_of name (said_in file))
 
 -- the lines are not those of a header: none ends it, one is wrong, or a name has no value or more than one
@@ -144,17 +138,17 @@ lines_wrong ls = not (ended ls) || (any_wrong (said ls) || not_once (said ls))
 -- the header is outside the subset: also where MAXVAL is another than 255, or DEPTH another than its tuple type has
 unfoldable pub header_wrong : List ℕ → Bool
 header_wrong file =
-    not (magic file) || (lines_wrong (lines_in file) || (not (eqb (value_in the_maxval file) 255) || not (eqb (value_in the_depth file) (value_in the_tupltype file))))
+    not (magic file) || (lines_wrong (lines_in file) || (not (eqb (value_in Maxval file) 255) || not (eqb (value_in Depth file) (value_in TupleType file))))
 
 -- size, depth and raster: "Each PAM image consists of a header followed immediately by a raster"
 abbrev pub width_of : List ℕ → ℕ
-width_of file = value_in the_width file
+width_of file = value_in Width file
 
 abbrev pub height_of : List ℕ → ℕ
-height_of file = value_in the_height file
+height_of file = value_in Height file
 
 abbrev pub depth_of : List ℕ → ℕ
-depth_of file = value_in the_depth file
+depth_of file = value_in Depth file
 
 abbrev pub raster_of : List ℕ → List ℕ
 raster_of file = behind_end (lines_in file)

@@ -1,18 +1,14 @@
 -- Reading and writing a PAM file: its pixels, the one form that is written, and what the four calls promise. Definitions only.
 -- Written from document 02, Ask 1, and the PAM document, "THE LAYOUT": "The raster consists of each row of the image, in order from top to bottom".
-use Rattle.std.specs.Prelude.{◌≡◌, ℕ, zero, suc, ◌+◌, ◌*◌, ◌/◌, ◌%◌, Bool, cond, not, ◌||◌, List, [], ◌∷◌, ◌++◌, eqb, ltb, length, get_or}
+use Rattle.std.specs.Prelude.{◌≡◌, ℕ, zero, suc, ◌+◌, ◌*◌, ◌/◌, ◌%◌, Bool, cond, not, ◌||◌, List, [], ◌∷◌, ◌++◌, eqb, ltb, length, get_or, Result}
 use Rattle.lists.specs.Gather.{gather}
 use Rattle.picture.specs.Bounds.{size_wrong}
 use Rattle.replies.specs.Replies.{Reply, ◌if◌, after}
-use Rattle.replies.specs.Answers.{Answers, value_or}
+use Rattle.replies.specs.Refusals.{number_of, Answered}
+use Rattle.replies.specs.declared.Refusal.{Refusal}
 use Rattle.pam.specs.Text.{text}
 use Rattle.pam.specs.Header.{header_wrong, width_of, height_of, depth_of, raster_of}
 use Rattle.pam.specs.declared.Size.{Size}
-use Rattle.pam.specs.declared.Size.TheVariants as size
-use Rattle.pam.specs.declared.Length.{Length}
-use Rattle.pam.specs.declared.Length.TheVariants as bytes
-use Rattle.pam.specs.declared.Written.{Written}
-use Rattle.pam.specs.declared.Written.TheVariants as written
 
 -- ---- pixels
 
@@ -89,43 +85,24 @@ write_replies width height pixels file =
 
 -- ---- the promises
 
--- document 02's number of an answer
-abbrev pub size_number : Size → ℕ
-size_number (size.Of width height) = 0
-size_number (size.Refused n) = n
-
-abbrev pub length_number : Length → ℕ
-length_number (bytes.Of n) = 0
-length_number (bytes.Refused n) = n
-
-abbrev pub written_number : Written → ℕ
-written_number written.Accepted = 0
-written_number (written.Refused n) = n
-
--- what is answered with a number
-abbrev pub size_answer : List ℕ → ℕ → Size
-size_answer file = value_or (size.Of (width_of file) (height_of file)) size.Refused
-
-abbrev pub length_answer : (width height : ℕ) → ℕ → Length
-length_answer width height = value_or (bytes.Of (pam_length width height)) bytes.Refused
-
-abbrev pub written_answer : ℕ → Written
-written_answer = value_or written.Accepted written.Refused
+-- a file's size
+abbrev pub size_of : List ℕ → Size
+size_of file = record { width = width_of file; height = height_of file }
 
 -- what `pam_size` promises of its answer r
-abbrev pub PamSized : List ℕ → Size → Type 0
-PamSized file r = Answers size_number (size_replies file) (size_answer file) r
+abbrev pub PamSized : List ℕ → Result Size Refusal → Type 0
+PamSized file r = Answered (size_replies file) (size_of file) r
 
 -- what `read_pam` answers and leaves: r, and the pixels after its number, which held `pixels₀`
-pub record PamRead (file pixels₀ : List ℕ) (r : Size) (pixels : List ℕ) : Type 0 where
-  pub answer : Answers size_number (read_replies file pixels₀) (size_answer file) r
-  pub picture : pixels ≡ after (size_number r) (pixels_of file) pixels₀
+pub record PamRead (file pixels₀ : List ℕ) (r : Result Size Refusal) (pixels : List ℕ) : Type 0 where
+  pub answer : Answered (read_replies file pixels₀) (size_of file) r
+  pub picture : pixels ≡ after (number_of r) (pixels_of file) pixels₀
 
 -- what `pam_length` promises of its answer r
-abbrev pub PamMeasured : (width height : ℕ) → Length → Type 0
-PamMeasured width height r = Answers length_number (length_replies width height) (length_answer width height) r
+abbrev pub PamMeasured : (width height : ℕ) → Result ℕ Refusal → Type 0
+PamMeasured width height r = Answered (length_replies width height) (pam_length width height) r
 
 -- what `write_pam` answers and leaves: r, and the file after its number, which held `file₀`
-pub record PamWritten (width height : ℕ) (pixels file₀ : List ℕ) (r : Written) (file : List ℕ) : Type 0 where
-  pub answer : Answers written_number (write_replies width height pixels file₀) written_answer r
-  pub whole : file ≡ after (written_number r) (pam_of width height pixels) file₀
+pub record PamWritten (width height : ℕ) (pixels file₀ : List ℕ) (r : Result (Unit {0}) Refusal) (file : List ℕ) : Type 0 where
+  pub answer : Answered (write_replies width height pixels file₀) tt r
+  pub whole : file ≡ after (number_of r) (pam_of width height pixels) file₀

@@ -2,10 +2,11 @@
 -- and a raster; each line says one thing; and five things are said exactly once, in any order. Definitions only.
 -- Written from the PAM document, "THE LAYOUT", and document 02, Ask 1. proofs/SubsetLaws: this is what specs/Header says, and a file has at most one size,
 -- depth and raster.
-use Rattle.std.specs.Prelude.{◌≡◌, ◌⊎◌, ℕ, ◌<◌, cond, not, List, [], ◌∷◌, ◌++◌, eqb}
+use Rattle.std.specs.Prelude.{◌≡◌, ◌⊎◌, ℕ, not, List, [], ◌∷◌, ◌++◌}
 use Rattle.lists.specs.Order.{All}
 use Rattle.pam.specs.Text.{text, is_newline, is_white, is_digit, value_of}
-use Rattle.pam.specs.Header.{the_width, the_height, the_depth, the_maxval, the_tupltype}
+use Rattle.pam.specs.declared.header.Field.{Field}
+use Rattle.pam.specs.declared.header.Field.TheVariants.{Width, Height, Depth, Maxval, TupleType}
 
 -- ---- a line
 
@@ -40,18 +41,26 @@ abbrev pub Samples : ℕ → List ℕ → Type 0
 Samples n value = ((value ≡ text "RGB") × (n ≡ 3)) ⊎ ((value ≡ text "RGB_ALPHA") × (n ≡ 4))
 
 -- a name's text
-abbrev pub name_text : ℕ → List ℕ
-name_text name =
-    cond (eqb name the_width) (text "WIDTH") (cond (eqb name the_height) (text "HEIGHT")
-    (cond (eqb name the_depth) (text "DEPTH") (cond (eqb name the_maxval) (text "MAXVAL") (text "TUPLTYPE"))))
+abbrev pub name_text : Field → List ℕ
+name_text Width = text "WIDTH"
+name_text Height = text "HEIGHT"
+name_text Depth = text "DEPTH"
+name_text Maxval = text "MAXVAL"
+name_text TupleType = text "TUPLTYPE"
+
+-- a value that gives a name the number n: digits, but for the tuple type
+abbrev pub Worth : Field → ℕ → List ℕ → Type 0
+Worth Width = Number
+Worth Height = Number
+Worth Depth = Number
+Worth Maxval = Number
+Worth TupleType = Samples
 
 -- a line that gives a name the value n
-pub record Gives (name n : ℕ) (line : List ℕ) : Type 0 where
+pub record Gives (name : Field) (n : ℕ) (line : List ℕ) : Type 0 where
   pub value : List ℕ
-  pub one_of_five : name < 5
   pub pair : Pair (name_text name) value line
-  pub number : name < 4 → Number n value
-  pub type : name ≡ 4 → Samples n value
+  pub worth : Worth name n value
 
 -- ---- lines
 
@@ -62,14 +71,14 @@ Each P (l ∷ ls) = P l × Each P ls
 
 -- it says nothing, or gives one of the five names a value
 abbrev pub Says : List ℕ → Type 0
-Says line = Idle line ⊎ ((name : ℕ) × (n : ℕ) × Gives name n line)
+Says line = Idle line ⊎ ((name : Field) × (n : ℕ) × Gives name n line)
 
 -- no line gives the name a value
-abbrev pub Silent : ℕ → List (List ℕ) → Type 0
+abbrev pub Silent : Field → List (List ℕ) → Type 0
 Silent name lines = Each (λ l. (n : ℕ) → Gives name n l → ⊥) lines
 
 -- exactly one of the lines gives the name a value, and that is n
-pub record Once (name n : ℕ) (lines : List (List ℕ)) : Type 0 where
+pub record Once (name : Field) (n : ℕ) (lines : List (List ℕ)) : Type 0 where
   pub before : List (List ℕ)
   pub line : List ℕ
   pub behind : List (List ℕ)
@@ -92,8 +101,8 @@ pub record PamFile (file : List ℕ) (width height depth : ℕ) (raster : List �
   pub lone : Each (All (λ b. not (is_newline b))) lines × All (λ b. not (is_newline b)) last
   pub says : Each Says lines
   pub ends : Alone (text "ENDHDR") last
-  pub wide : Once the_width width lines
-  pub high : Once the_height height lines
-  pub deep : Once the_depth depth lines
-  pub most : Once the_maxval 255 lines
-  pub samples : Once the_tupltype depth lines
+  pub wide : Once Width width lines
+  pub high : Once Height height lines
+  pub deep : Once Depth depth lines
+  pub most : Once Maxval 255 lines
+  pub samples : Once TupleType depth lines

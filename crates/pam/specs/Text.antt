@@ -1,7 +1,9 @@
 -- Bytes as text: the bytes of a written text, which bytes are white space and digits, and the number that digits give. Definitions only.
 -- Written from the PAM document (manual page pam of netpbm), "THE LAYOUT": "ASCII characters", "whitespace-delimited", "a decimal number"; which bytes are
 -- white space is decided in docs/DECISIONS.md.
-use Rattle.std.specs.Prelude.{ℕ, suc, ◌+◌, ◌*◌, ◌-◌, Bool, true, false, cond, not, ◌||◌, ◌&&◌, List, [], ◌∷◌, eqb, leb, length}
+use Rattle.std.specs.Prelude.{ℕ, ◌+◌, ◌*◌, ◌-◌, Bool, not, ◌||◌, ◌&&◌, List, [], ◌∷◌, eqb, leb, length}
+use Rattle.std.specs.Cmp.Lexicographic.{pointwise}
+use Rattle.std.specs.List.{list_all}
 use Prim.Native.Char.{code}
 use Prim.Native.String.{String, [] as empty, ◌∷◌ as ◌before◌}
 
@@ -11,11 +13,8 @@ text empty = []
 text (c before s) = code c ∷ text s
 
 -- two lists of bytes are the same
-unfoldable pub same_text : List ℕ → List ℕ → Bool
-same_text [] [] = true
-same_text [] (y ∷ ys) = false
-same_text (x ∷ xs) [] = false
-same_text (x ∷ xs) (y ∷ ys) = eqb x y && same_text xs ys
+abbrev pub same_text : List ℕ → List ℕ → Bool
+same_text = pointwise eqb
 
 -- the character that ends a line
 unfoldable pub is_newline : ℕ → Bool
@@ -29,18 +28,9 @@ is_white b = eqb b 9 || (eqb b 11 || (eqb b 12 || (eqb b 13 || eqb b 32)))
 unfoldable pub is_digit : ℕ → Bool
 is_digit b = leb 48 b && leb b 57
 
--- how many elements at the front of a list pass a test
-unfoldable pub span : (ℕ → Bool) → List ℕ → ℕ
-span test [] = 0
-span test (b ∷ bs) = cond (test b) (suc (span test bs)) 0
-
--- the sorts of bytes that are stepped over: 0 white space, 1 a token's, 2 digits, else a line's
-abbrev pub of_sort : ℕ → ℕ → Bool
-of_sort sort b = cond (eqb sort 0) (is_white b) (cond (eqb sort 1) (not (is_white b)) (cond (eqb sort 2) (is_digit b) (not (is_newline b))))
-
 -- one or more digits and nothing else
 unfoldable pub is_number : List ℕ → Bool
-is_number bs = not (eqb (length bs) 0) && eqb (span is_digit bs) (length bs)
+is_number bs = not (eqb (length bs) 0) && list_all is_digit bs
 
 -- the number that decimal digits give, behind those that gave n; however many there are
 unfoldable pub value_from : ℕ → List ℕ → ℕ

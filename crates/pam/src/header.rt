@@ -1,131 +1,125 @@
 // The header of a PAM file: what a line says, the lines up to ENDHDR, and what they give. Numbers are kept up to a million,
 // which is more than any that the calls take, so that a number of any length is read.
-ghost use Rattle.std.specs.Prelude.{◌≡◌, ◌<◌, ◌≤◌, true, cond, ◌∷◌, [], eqb, length, get_or, set, replicate};
-ghost use Rattle.pam.specs.declared.header.HeaderLine.TheVariants.{Value};
-ghost use Rattle.pam.specs.Lines.{tokens};
-ghost use Rattle.pam.specs.Header.{number_line, type_line, field_line, tokens_line, header_line, magic};
-ghost use Rattle.pam.specs.Reading.{capped, capped_line, unset, turn_of, values_after, LinesRead, no_header, values_wrong, header_from, HeaderRead};
+ghost use Rattle.std.specs.Prelude.{◌≡◌, ◌<◌, true, [], ◌∷◌, length, IfSome, MatchOption};
+ghost use Rattle.pam.specs.Lines.{lines_of, tokens};
+ghost use Rattle.pam.specs.Header.{number_line, type_line, field_line, tokens_line, header_line, lines_wrong, header_wrong};
+ghost use Rattle.pam.specs.Reading.{capped_line, Noted, LinesRead, Whole, Broken, HeaderRead};
 
-use crate::text::{LINE, TOKEN, WHITE, is_number, run_of, same_text, value_of};
+use crate::Size;
+use crate::text::{is_number, newline_in, token_in, value_of, white_in};
 
-// What a header line says: nothing, a value for one of five names, that the header ends; or it is wrong.
+// The five names to which a line gives a value.
+#[derive(Clone, Copy)]
+pub enum Field {
+    Width,
+    Height,
+    Depth,
+    Maxval,
+    TupleType,
+}
+
+// What a header line says: nothing, a value for one of the names, that the header ends; or it is wrong.
 #[derive(Clone, Copy)]
 pub enum HeaderLine {
     Ignored,
-    Value(u32, u32),
+    Value(Field, u32),
     End,
     Wrong,
 }
 
-// The five names.
-const WIDTH: u32 = 0;
-
-const HEIGHT: u32 = 1;
-
-const DEPTH: u32 = 2;
-
-const MAXVAL: u32 = 3;
-
-const TUPLTYPE: u32 = 4;
-
-// What stands in the place of a name that has no value yet.
-const UNSET: u32 = 4294967295;
-
 // ---- a line
 
 // A line that gives a name a number.
-fn number_line(name: u32, value: &[u8]) -> HeaderLine
+#[tactic(auto, unfolding(crate::specs::Header::number_line))]
+fn number_line(name: Field, value: &[u8]) -> HeaderLine
     ensures { result ≡ capped_line (number_line name value.now) }
 {
     if is_number(value) {
-        return HeaderLine::Value(name, value_of(value));
+        HeaderLine::Value(name, value_of(value))
+    } else {
+        HeaderLine::Wrong
     }
-    HeaderLine::Wrong
 }
 
 // A line that gives the tuple type: as many samples as a pixel has.
+#[tactic(auto, unfolding(crate::specs::Header::type_line))]
 fn type_line(value: &[u8]) -> HeaderLine
     ensures { result ≡ capped_line (type_line value.now) }
 {
-    if same_text(value, b"RGB") {
-        return HeaderLine::Value(TUPLTYPE, 3);
+    if value == b"RGB".as_slice() {
+        HeaderLine::Value(Field::TupleType, 3)
+    } else if value == b"RGB_ALPHA".as_slice() {
+        HeaderLine::Value(Field::TupleType, 4)
+    } else {
+        HeaderLine::Wrong
     }
-    if same_text(value, b"RGB_ALPHA") {
-        return HeaderLine::Value(TUPLTYPE, 4);
-    }
-    HeaderLine::Wrong
 }
 
 // A line of a name and a value.
+#[tactic(auto, unfolding(crate::specs::Header::field_line))]
 fn field_line(name: &[u8], value: &[u8]) -> HeaderLine
     ensures { result ≡ capped_line (field_line name.now value.now) }
 {
-    if same_text(name, b"WIDTH") {
-        return number_line(WIDTH, value);
+    if name == b"WIDTH".as_slice() {
+        number_line(Field::Width, value)
+    } else if name == b"HEIGHT".as_slice() {
+        number_line(Field::Height, value)
+    } else if name == b"DEPTH".as_slice() {
+        number_line(Field::Depth, value)
+    } else if name == b"MAXVAL".as_slice() {
+        number_line(Field::Maxval, value)
+    } else if name == b"TUPLTYPE".as_slice() {
+        type_line(value)
+    } else {
+        HeaderLine::Wrong
     }
-    if same_text(name, b"HEIGHT") {
-        return number_line(HEIGHT, value);
-    }
-    if same_text(name, b"DEPTH") {
-        return number_line(DEPTH, value);
-    }
-    if same_text(name, b"MAXVAL") {
-        return number_line(MAXVAL, value);
-    }
-    if same_text(name, b"TUPLTYPE") {
-        return type_line(value);
-    }
-    HeaderLine::Wrong
 }
 
 // A line of one token.
+#[tactic(auto, unfolding(crate::specs::Header::tokens_line))]
 fn lone_line(name: &[u8]) -> HeaderLine
     ensures { result ≡ capped_line (tokens_line (name.now ∷ [])) }
 {
-    if same_text(name, b"ENDHDR") {
-        return HeaderLine::End;
+    if name == b"ENDHDR".as_slice() {
+        HeaderLine::End
+    } else {
+        HeaderLine::Wrong
     }
-    HeaderLine::Wrong
 }
 
-// A line whose first token is `name`; what is behind that token is `rest`.
-fn named_line(name: &[u8], rest: &[u8]) -> HeaderLine
-    ensures { result ≡ capped_line (tokens_line (name.now ∷ tokens rest.now)) }
+// The first token of a line, and what is behind it.
+fn next_token(line: &[u8]) -> Option<(&[u8], &[u8])>
+    ensures { MatchOption result (tokens line.now ≡ []) (λ p. tokens line.now ≡ p.0.now ∷ tokens p.1.now) }
 {
-    let start = run_of(WHITE, rest);
-    let from = &rest[start..];
-    let size = run_of(TOKEN, from);
-    if size == 0 {
-        return lone_line(name);
-    }
-    let last = &from[size..];
-    if run_of(WHITE, last) != last.len() {
-        return HeaderLine::Wrong;
-    }
-    field_line(name, &from[..size])
+    let start = token_in(line)?;
+    let from = &line[start..];
+    let size = white_in(from).unwrap_or(from.len());
+    Some(from.split_at(size))
 }
 
 // A line that is no comment, by its tokens.
+#[tactic(auto, unfolding(crate::specs::Header::tokens_line))]
 fn tokens_line(line: &[u8]) -> HeaderLine
     ensures { result ≡ capped_line (tokens_line (tokens line.now)) }
 {
-    let start = run_of(WHITE, line);
-    let from = &line[start..];
-    let size = run_of(TOKEN, from);
-    if size == 0 {
+    let Some((name, rest)) = next_token(line) else {
         return HeaderLine::Ignored;
+    };
+    let Some((value, rest)) = next_token(rest) else {
+        return lone_line(name);
+    };
+    match next_token(rest) {
+        Some(_) => HeaderLine::Wrong,
+        None => field_line(name, value),
     }
-    named_line(&from[..size], &from[size..])
 }
 
 // A line.
+#[tactic(auto, using(crate::proofs::WordLaws::comment_line, crate::proofs::WordLaws::other_line))]
 fn header_line(line: &[u8]) -> HeaderLine
     ensures { result ≡ capped_line (header_line line.now) }
 {
-    if line.len() == 0 {
-        return HeaderLine::Ignored;
-    }
-    if line[0] == b'#' {
+    if line.starts_with(b"#") {
         return HeaderLine::Ignored;
     }
     tokens_line(line)
@@ -133,144 +127,82 @@ fn header_line(line: &[u8]) -> HeaderLine
 
 // ---- the lines
 
-// What follows on a line: the header is refused, goes on, or has ended.
-const REFUSED: u8 = 0;
+// The first line, without the newline that ends it, and what is behind that; none where no newline is left.
+fn next_line(bytes: &[u8]) -> Option<(&[u8], &[u8])>
+    ensures line { MatchOption result (lines_of bytes.now ≡ []) (λ p. lines_of bytes.now ≡ record { bytes = p.0.now; behind = p.1.now } ∷ lines_of p.1.now) }
+    ensures shorter { IfSome result (λ p. length p.1.now < length bytes.now) }
+{
+    let size = newline_in(bytes)?;
+    Some((&bytes[..size], &bytes[size + 1..]))
+}
 
-const MORE: u8 = 1;
-
-const LAST: u8 = 2;
-
-// A name's value, put in its place unless it has one.
-fn note(values: &mut [u32], name: u32, value: u32) -> u8
-    requires { (length values.old ≡ 5) × (name < 5) }
-    ensures { (result ≡ turn_of (Value name value) values.old)
-        × (values.new ≡ cond (eqb (get_or values.old name 0) unset) (set values.old name value) values.old) }
+// A name's value, put in its place; none where it has one.
+fn note(values: &mut [Option<u32>; 5], name: Field, value: u32) -> Option<()>
+    ensures { Noted values.old name value result values.new }
 {
     let at = name as usize;
-    if values[at] == UNSET {
-        values[at] = value;
-        return MORE;
-    }
-    REFUSED
-}
-
-// A line's turn.
-fn read_line(line: &[u8], values: &mut [u32]) -> u8
-    requires { length values.old ≡ 5 }
-    ensures { (result ≡ turn_of (header_line line.now) values.old)
-        × (values.new ≡ values_after (header_line line.now) values.old) }
-{
-    match header_line(line) {
-        HeaderLine::Ignored => MORE,
-        HeaderLine::Value(name, value) => note(values, name, value),
-        HeaderLine::End => LAST,
-        HeaderLine::Wrong => REFUSED,
-    }
-}
-
-// Where the header is left after a line that ends at `at` and is its last.
-fn left_at(turn: u8, at: usize) -> usize
-    ensures { result ≡ cond (eqb turn 2) at 0 }
-{
-    if turn == LAST {
-        return at;
-    }
-    0
-}
-
-// Reads lines up to ENDHDR. Answers with where the bytes behind it begin, or with 0 where the lines are wrong.
-fn read_lines(bytes: &[u8], values: &mut [u32]) -> usize
-    requires { values.old ≡ replicate 5 unset }
-    ensures { LinesRead bytes.now result values.new }
-{
-    let mut at: usize = 0;
-    while at < bytes.len() {
-        let rest = &bytes[at..];
-        let size = run_of(LINE, rest);
-        if size == rest.len() {
-            return 0;
-        }
-        let turn = read_line(&rest[..size], values);
-        at += size + 1;
-        if turn != MORE {
-            return left_at(turn, at);
+    match values[at] {
+        Some(_) => None,
+        None => {
+            values[at] = Some(value);
+            Some(())
         }
     }
-    0
+}
+
+// The values that the lines up to ENDHDR give, and the bytes behind it; none where the lines are wrong.
+fn read_lines(bytes: &[u8]) -> Option<([Option<u32>; 5], &[u8])>
+    ensures { MatchOption result (lines_wrong (lines_of bytes.now) ≡ true) (λ p. LinesRead bytes.now p.0 p.1.now) }
+{
+    let mut values = [None; 5];
+    let mut rest = bytes;
+    while let Some((line, behind)) = next_line(rest) {
+        match header_line(line) {
+            HeaderLine::Ignored => {}
+            HeaderLine::Value(name, value) => note(&mut values, name, value)?,
+            HeaderLine::End => return Some((values, behind)),
+            HeaderLine::Wrong => return None,
+        }
+        rest = behind;
+    }
+    None
 }
 
 // ---- the header
 
-// A header: its sides up to a million, its samples a pixel, and where the raster begins; 0 there where the header is outside
-// the subset.
+// A header in the subset: its sides up to a million, its samples a pixel, and the raster behind it.
 #[derive(Clone, Copy)]
-pub struct Header {
-    pub width: u32,
-    pub height: u32,
+pub struct Header<'a> {
+    pub size: Size,
     pub depth: u32,
-    pub raster: usize,
+    pub raster: &'a [u8],
 }
 
-// What stands for a header outside the subset.
-fn no_header() -> Header
-    ensures { result ≡ no_header }
+// The header that values give: none where one is missing, MAXVAL is not 255, or DEPTH not what the tuple type has.
+fn header_from(values: [Option<u32>; 5], raster: &[u8]) -> Option<Header<'_>>
+    ensures { MatchOption result (Broken values) (λ h. Whole values h.size h.depth × (h.raster.now ≡ raster.now)) }
 {
-    Header {
-        width: 0,
-        height: 0,
-        depth: 0,
-        raster: 0,
+    let [width, height, depth, maxval, samples] = values;
+    let size = Size {
+        width: width?,
+        height: height?,
+    };
+    let depth = depth?;
+    if maxval? != 255 || samples? != depth {
+        return None;
     }
-}
-
-// Whether a value is missing, MAXVAL is not 255, or DEPTH not what the tuple type has.
-fn values_wrong(values: &[u32]) -> bool
-    requires { length values.now ≡ 5 }
-    ensures { result ≡ values_wrong values.now }
-{
-    (values[0] == UNSET)
-        | ((values[1] == UNSET)
-            | ((values[2] == UNSET) | ((values[3] != 255) | (values[2] != values[4]))))
-}
-
-// The header that values give.
-fn header_from(values: &[u32], raster: usize) -> Header
-    requires { length values.now ≡ 5 }
-    ensures { result ≡ header_from values.now raster }
-{
-    if values_wrong(values) {
-        return no_header();
-    }
-    Header {
-        width: values[0],
-        height: values[1],
-        depth: values[2],
+    Some(Header {
+        size,
+        depth,
         raster,
-    }
-}
-
-// The header behind the magic number.
-fn header_behind(file: &[u8], values: &mut [u32]) -> Header
-    requires { (3 ≤ length file.now) × (values.old ≡ replicate 5 unset) }
-    ensures { magic file.now ≡ true → HeaderRead file.now result }
-{
-    let end = read_lines(&file[3..], values);
-    if end == 0 {
-        return no_header();
-    }
-    header_from(values, end + 3)
+    })
 }
 
 // The header of a file.
-pub fn header_of(file: &[u8]) -> Header
-    ensures { HeaderRead file.now result }
+pub fn header_of(file: &[u8]) -> Option<Header<'_>>
+    ensures { MatchOption result (header_wrong file.now ≡ true) (λ h. HeaderRead file.now h.size h.depth h.raster.now) }
 {
-    if file.len() < 3 {
-        return no_header();
-    }
-    if !same_text(&file[..3], b"P7\n") {
-        return no_header();
-    }
-    let mut values = [UNSET; 5];
-    header_behind(file, &mut values)
+    let lines = file.strip_prefix(b"P7\n")?;
+    let (values, raster) = read_lines(lines)?;
+    header_from(values, raster)
 }

@@ -4,125 +4,79 @@
 
 mod header;
 mod raster;
+mod sides;
 mod text;
 mod writing;
 
-ghost use Rattle.std.specs.Prelude.{◌≡◌};
+ghost use Rattle.std.specs.Prelude.{◌≡◌, IfOk};
 ghost use Rattle.replies.specs.Replies.{first_reply};
-ghost use Rattle.pam.specs.Pam.{length_replies, size_replies, PamSized, PamRead, PamMeasured, PamWritten};
+ghost use Rattle.replies.specs.Refusals.{number_of};
+ghost use Rattle.pam.specs.Pam.{size_replies, PamSized, PamRead, PamMeasured, PamWritten};
 ghost use Rattle.pam.specs.Reading.{HeaderRead};
 
 use header::{Header, header_of};
+use replies::Refusal;
+use sides::Sides;
 
-// A file's width and height, or document 02's number of a refusal.
-#[derive(Clone, Copy)]
-pub enum Size {
-    Of(u32, u32),
-    Refused(u8),
+// A picture's sides.
+#[derive(Clone, Copy, Debug, PartialEq, Eq, Hash)]
+pub struct Size {
+    pub width: u32,
+    pub height: u32,
 }
 
-// How many bytes a file takes, or document 02's number of a refusal.
-#[derive(Clone, Copy)]
-pub enum Length {
-    Of(u64),
-    Refused(u8),
-}
-
-// Whether a file was written, or document 02's number of a refusal.
-#[derive(Clone, Copy)]
-pub enum Written {
-    Accepted,
-    Refused(u8),
-}
-
-// ---- refusals
-
-// 10 for a picture with no pixels, 2 for one that is too large, else 0.
-fn side_refusal(width: u32, height: u32) -> u8
-    ensures { result ≡ first_reply (length_replies width height) }
+// The header of a file, or the refusal that needs no lent buffer.
+fn checked_header(file: &[u8]) -> Result<Header<'_>, Refusal>
+    ensures number { number_of result ≡ first_reply (size_replies file.now) }
+    ensures header { IfOk result (λ h. HeaderRead file.now h.size h.depth h.raster.now) }
 {
-    if (width == 0) | (height == 0) {
-        return 10;
+    let header = header_of(file).ok_or(Refusal::PamHeader)?;
+    let Size { width, height } = header.size;
+    let n = Sides::checked(width, height)?.pixels();
+    if header.raster.len() != header.depth as usize * n {
+        return Err(Refusal::PamPixels);
     }
-    if picture::size_wrong(width, height) {
-        return 2;
-    }
-    0
-}
-
-// The number of the refusal that needs no lent buffer, or 0.
-fn file_refusal(file: &[u8], h: Header) -> u8
-    requires { HeaderRead file.now h }
-    ensures { result ≡ first_reply (size_replies file.now) }
-{
-    if h.raster == 0 {
-        return 10;
-    }
-    let number = side_refusal(h.width, h.height);
-    if number != 0 {
-        return number;
-    }
-    let needed = h.depth as usize * (h.width as usize * h.height as usize);
-    if file.len() - h.raster != needed {
-        return 11;
-    }
-    0
+    Ok(header)
 }
 
 // ---- the calls
 
 // The size of a file's picture, for which a reader lends four bytes a pixel.
-pub fn pam_size(file: &[u8]) -> Size
+pub fn pam_size(file: &[u8]) -> Result<Size, Refusal>
     ensures { PamSized file.now result }
 {
-    let h = header_of(file);
-    let number = file_refusal(file, h);
-    if number != 0 {
-        return Size::Refused(number);
-    }
-    Size::Of(h.width, h.height)
+    let header = checked_header(file)?;
+    Ok(header.size)
 }
 
 // A file's pixels, four bytes each, and its size. On a refusal the buffer is as it was.
-pub fn read_pam(file: &[u8], pixels: &mut [u8]) -> Size
+pub fn read_pam(file: &[u8], pixels: &mut [u8]) -> Result<Size, Refusal>
     ensures { PamRead file.now pixels.old result pixels.new }
 {
-    let h = header_of(file);
-    let number = file_refusal(file, h);
-    if number != 0 {
-        return Size::Refused(number);
-    }
-    let n = h.width as usize * h.height as usize;
+    let header = checked_header(file)?;
+    let n = header.size.width as usize * header.size.height as usize;
     if pixels.len() != 4 * n {
-        return Size::Refused(3);
+        return Err(Refusal::Length);
     }
-    let start = h.raster;
-    raster::put_pixels(h.depth, &file[start..], n, pixels);
-    Size::Of(h.width, h.height)
+    raster::put_pixels(header.depth, header.raster, n, pixels);
+    Ok(header.size)
 }
 
 // How many bytes the file of a picture takes.
-pub fn pam_length(width: u32, height: u32) -> Length
+pub fn pam_length(width: u32, height: u32) -> Result<u64, Refusal>
     ensures { PamMeasured width height result }
 {
-    let number = side_refusal(width, height);
-    if number != 0 {
-        return Length::Refused(number);
-    }
-    Length::Of(writing::file_length(width, height) as u64)
+    Ok(Sides::checked(width, height)?.file_length() as u64)
 }
 
 // Writes a picture's file into a buffer of just that length. On a refusal the buffer is as it was.
-pub fn write_pam(width: u32, height: u32, pixels: &[u8], file: &mut [u8]) -> Written
+pub fn write_pam(width: u32, height: u32, pixels: &[u8], file: &mut [u8]) -> Result<(), Refusal>
     ensures { PamWritten width height pixels.now file.old result file.new }
 {
-    let number = side_refusal(width, height);
-    if number != 0 {
-        return Written::Refused(number);
+    let sides = Sides::checked(width, height)?;
+    if sides.lengths_wrong(pixels.len(), file.len()) {
+        return Err(Refusal::Length);
     }
-    if writing::lengths_wrong(width, height, pixels.len(), file.len()) {
-        return Written::Refused(3);
-    }
-    writing::put_file(width, height, pixels, file);
-    Written::Accepted
+    sides.put_file(pixels, file);
+    Ok(())
 }

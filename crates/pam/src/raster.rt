@@ -7,19 +7,8 @@ ghost use Rattle.pam.specs.Reading.{samples_at};
 
 use color::Rgba8888;
 
-// Copies bytes to a place in a buffer. No public call: the caller sees to the room.
-pub fn copy(to: &mut [u8], at: usize, from: &[u8])
-    requires { at + length from.now ≤ length to.old }
-    ensures { to.new ≡ sets to.old at from.now }
-{
-    let mut i: usize = 0;
-    while i < from.len() {
-        to[at + i] = from[i];
-        i += 1;
-    }
-}
-
 // Pixel i of three samples.
+#[tactic(auto, unfolding(crate::specs::Pam::pixel_at))]
 fn put_opaque(raster: &[u8], i: usize, pixels: &mut [u8])
     requires { (3 * i + 2 < length raster.now) × (4 * i + 3 < length pixels.old) }
     ensures { pixels.new ≡ sets pixels.old (4 * i) (pixel_at 3 raster.now i) }
@@ -33,22 +22,14 @@ fn put_opaque(raster: &[u8], i: usize, pixels: &mut [u8])
     color::put_rgba(pixels, i, c);
 }
 
-// All pixels of three samples, one by one.
-fn put_each_opaque(raster: &[u8], n: usize, pixels: &mut [u8])
-    requires { (n ≤ 1048576) × (length raster.now ≡ 3 * n) × (length pixels.old ≡ 4 * n) }
-    ensures { pixels.new ≡ gather n (pixel_at 3 raster.now) }
-{
-    let mut i: usize = 0;
-    while i < n {
-        put_opaque(raster, i, pixels);
-        i += 1;
-    }
-}
+// ---- all pixels of three samples, four bytes at once. Kept: the raster and the pixels are parameters of their own. A struct of
+// both would hold a `&mut` slice, and a clause would speak of loans where it says `pixels.new`.
 
-// ---- all pixels of three samples, four bytes at once
-
-// Four bytes from pixel i's samples on. The fourth is the next pixel's red, and stands where alpha will: four bytes that
-// follow each other are moved at once, and three with a constant behind them one by one.
+// Four bytes from pixel i's samples on. The fourth is the next pixel's red, and stands where alpha will.
+// Kept beside `put_opaque`, for speed: four bytes that follow each other are moved at once, and three with a constant behind
+// them one by one. A loop of `put_opaque` alone takes 1.7 times as long, and so do the library's chunks (tried): more than
+// three copies of the file, the bound in docs/SPEED.md.
+#[tactic(auto, unfolding(crate::specs::Reading::samples_at))]
 fn put_samples(raster: &[u8], i: usize, pixels: &mut [u8])
     requires { (3 * i + 3 < length raster.now) × (4 * i + 3 < length pixels.old) }
     ensures { pixels.new ≡ sets pixels.old (4 * i) (samples_at raster.now i) }
@@ -85,10 +66,8 @@ fn put_most(raster: &[u8], n: usize, pixels: &mut [u8])
     ensures { take (4 * (n - 1)) (set pixels.new (4 * (n - 2) + 3) 255) ≡ gather (n - 1) (pixel_at 3 raster.now) }
 {
     put_samples(raster, 0, pixels);
-    let mut i: usize = 0;
-    while i < n - 2 {
+    for i in 0..n - 2 {
         put_next(raster, i, pixels);
-        i += 1;
     }
 }
 
@@ -97,14 +76,18 @@ fn put_all_opaque(raster: &[u8], n: usize, pixels: &mut [u8])
     requires { (n ≤ 1048576) × (length raster.now ≡ 3 * n) × (length pixels.old ≡ 4 * n) }
     ensures { pixels.new ≡ gather n (pixel_at 3 raster.now) }
 {
-    if n < 2 {
-        return put_each_opaque(raster, n, pixels);
+    match n {
+        0 => {}
+        1 => put_opaque(raster, 0, pixels),
+        _ => {
+            put_most(raster, n, pixels);
+            put_alpha(pixels, n - 2);
+            put_opaque(raster, n - 1, pixels)
+        }
     }
-    put_most(raster, n, pixels);
-    put_alpha(pixels, n - 2);
-    put_opaque(raster, n - 1, pixels)
 }
 
+// Kept: n ties the lengths of both slices, `depth` bytes a pixel and four, which neither tells alone.
 // The pixels of a raster of n, with three samples each or four. No public call: the caller sees to the lengths.
 pub fn put_pixels(depth: u32, raster: &[u8], n: usize, pixels: &mut [u8])
     requires { (n ≤ 1048576) × (3 ≤ depth) × (depth ≤ 4) × (length raster.now ≡ depth * n) × (length pixels.old ≡ 4 * n) }
@@ -113,5 +96,5 @@ pub fn put_pixels(depth: u32, raster: &[u8], n: usize, pixels: &mut [u8])
     if depth == 3 {
         return put_all_opaque(raster, n, pixels);
     }
-    copy(pixels, 0, raster)
+    pixels.copy_from_slice(raster)
 }

@@ -1,115 +1,69 @@
-// Bytes as text: how far bytes of one sort go, whether two texts are the same, and the number that digits give.
-ghost use Rattle.std.specs.Prelude.{◌≡◌, ◌+◌, ◌*◌, ◌-◌, ◌≤◌, length};
-ghost use Rattle.pam.specs.Text.{is_white, is_digit, of_sort, span, is_number, same_text, value_of};
+// Bytes as text: which are white space, and the number that digits give.
+ghost use Rattle.std.specs.Prelude.{◌≡◌, ◌+◌, ◌*◌, ◌-◌, not, position};
+ghost use Rattle.std.specs.List.{list_all};
+ghost use Rattle.pam.specs.Text.{is_newline, is_white, is_digit, is_number, value_of};
 ghost use Rattle.pam.specs.Reading.{capped};
 
-// The sorts of bytes.
-pub const WHITE: u8 = 0;
-
-pub const TOKEN: u8 = 1;
-
-pub const DIGIT: u8 = 2;
-
-pub const LINE: u8 = 3;
-
 // Tab, vertical tab, form feed, carriage return or blank.
-fn is_white(b: u8) -> bool
+#[tactic(auto, unfolding(crate::specs::Text::is_white))]
+pub fn is_white(b: u8) -> bool
     ensures { result ≡ is_white b }
 {
-    (b == b'\t') | ((b == 11) | ((b == 12) | ((b == b'\r') | (b == b' '))))
+    matches!(b, b'\t' | 11 | 12 | b'\r' | b' ')
 }
 
-fn is_digit(b: u8) -> bool
-    ensures { result ≡ is_digit b }
+// Where the first white space is.
+pub fn white_in(bytes: &[u8]) -> Option<usize>
+    ensures { result ≡ position is_white bytes.now }
 {
-    (b'0' <= b) & (b <= b'9')
+    bytes.iter().position(|b| is_white(*b))
 }
 
-// Whether a byte is of a sort.
-fn of_sort(sort: u8, b: u8) -> bool
-    ensures { result ≡ of_sort sort b }
+// Where the first byte is that is no white space.
+pub fn token_in(bytes: &[u8]) -> Option<usize>
+    ensures { result ≡ position (λ b. not (is_white b)) bytes.now }
 {
-    if sort == WHITE {
-        return is_white(b);
-    }
-    if sort == TOKEN {
-        return !is_white(b);
-    }
-    if sort == DIGIT {
-        return is_digit(b);
-    }
-    b != b'\n'
+    bytes.iter().position(|b| !is_white(*b))
 }
 
-// How many bytes at the front are of a sort.
-pub fn run_of(sort: u8, bytes: &[u8]) -> usize
-    ensures { (result ≡ span (of_sort sort) bytes.now) × (result ≤ length bytes.now) }
+// Where the first newline is.
+#[tactic(auto, unfolding(crate::specs::Text::is_newline))]
+pub fn newline_in(bytes: &[u8]) -> Option<usize>
+    ensures { result ≡ position is_newline bytes.now }
 {
-    let mut i: usize = 0;
-    while i < bytes.len() {
-        if !of_sort(sort, bytes[i]) {
-            return i;
-        }
-        i += 1;
-    }
-    i
+    bytes.iter().position(|b| *b == b'\n')
 }
 
-// Whether two texts are the same.
-pub fn same_text(a: &[u8], b: &[u8]) -> bool
-    ensures { result ≡ same_text a.now b.now }
+// Whether every byte is a digit.
+#[tactic(auto, unfolding(crate::specs::Text::is_digit))]
+fn all_digits(bytes: &[u8]) -> bool
+    ensures { result ≡ list_all is_digit bytes.now }
 {
-    if a.len() != b.len() {
-        return false;
-    }
-    let mut i: usize = 0;
-    while i < a.len() {
-        if a[i] != b[i] {
-            return false;
-        }
-        i += 1;
-    }
-    true
+    bytes.iter().all(|b| b.is_ascii_digit())
 }
 
 // Whether a token is a number: one or more digits.
+#[tactic(auto, unfolding(crate::specs::Text::is_number))]
 pub fn is_number(token: &[u8]) -> bool
     ensures { result ≡ is_number token.now }
 {
-    (token.len() != 0) & (run_of(DIGIT, token) == token.len())
+    !token.is_empty() && all_digits(token)
 }
 
-// What a digit is worth, or what is above '0' for any other byte.
-fn worth(digit: u8) -> u32
-    ensures { result ≡ digit - 48 }
-{
-    if digit < b'0' {
-        return 0;
-    }
-    (digit - b'0') as u32
-}
-
-// A digit more behind a number, up to a million.
+// A digit more behind a number, up to a million. A byte below '0' counts as 0, one above '9' as what it is above '0'.
 fn with_digit(n: u32, digit: u8) -> u32
-    requires { n ≤ 1000000 }
     ensures { result ≡ capped (10 * n + (digit - 48)) }
 {
-    let more = 10 * n + worth(digit);
-    if more < 1000000 {
-        return more;
-    }
-    1000000
+    let worth = digit.saturating_sub(b'0');
+    n.saturating_mul(10)
+        .saturating_add(u32::from(worth))
+        .min(1_000_000)
 }
 
 // The number that digits give, up to a million.
+#[tactic(auto, using(crate::proofs::TextLaws::value_capped))]
 pub fn value_of(digits: &[u8]) -> u32
     ensures { result ≡ capped (value_of digits.now) }
 {
-    let mut n: u32 = 0;
-    let mut i: usize = 0;
-    while i < digits.len() {
-        n = with_digit(n, digits[i]);
-        i += 1;
-    }
-    n
+    digits.iter().fold(0, |n, d| with_digit(n, *d))
 }

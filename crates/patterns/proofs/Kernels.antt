@@ -4,15 +4,16 @@ use mathlib.Core.Path.{◌≡◌, refl, ap, subst}
 use mathlib.Core.Bool.{Bool, true, not, ◌||◌}
 use Prim.Native.Nat.{ℕ, ◌+◌, ◌≤◌}
 use lib.Dec.{T, eqb, leb, leb→le, eqb→eq}
-use Rattle.patterns.specs.declared.Kind.{Kind}
+use Rattle.std.specs.Prelude.{Option}
+use Rattle.patterns.specs.declared.Dither.{Dither}
 use Rattle.patterns.specs.Kernel.{total, positive, comes_later, later, weighted}
 use Rattle.patterns.specs.Kinds.{kind_of, way_in, way_of, has_kernel, kernel_in, held_in, is_diffusion, kernel_of, held_of}
 use Rattle.patterns.proofs.Numbers.{of_all}
 
 -- the kernel, by what the number stands for
-pub kernel_in_lem : (k : ℕ) (r : Kind) → r ≡ kind_of k → kernel_in (way_in r) ≡ kernel_of k
+pub kernel_in_lem : (k : ℕ) (r : Option Dither) → r ≡ kind_of k → kernel_in (way_in r) ≡ kernel_of k
 unfolding kernel_of way_of
-kernel_in_lem k r e = ap (λ (v : Kind). kernel_in (way_in v)) e
+kernel_in_lem k r e = ap (λ (v : Option Dither). kernel_in (way_in v)) e
 
 pub kernel_later : (kind : ℕ) → T (later (kernel_of kind))
 unfolding kernel_of way_of kind_of later comes_later positive

@@ -2,32 +2,20 @@
 -- there is none above. What holds of the ways of the eleven kinds, by a computed test, and where there is none, holds of every number. Assumes nothing.
 use mathlib.Core.Path.{◌≡◌, refl, ap, ◌∙◌}
 use mathlib.Core.Bool.{Bool, true, false, not, ◌&&◌, ◌||◌}
-use mathlib.Core.List.{List, [], ◌∷◌, map}
-use Prim.Native.Nat.{ℕ, zero, suc, ◌≤◌, ◌<◌}
-use native.Mathlib.Nat.{le_of_suc-le-suc, not-suc-le-zero}
+use mathlib.Core.List.{List, map}
+use Prim.Native.Nat.{ℕ, ◌≤◌, ◌<◌}
 use native.Mathlib.Omega.{arith}
 use borrow.Author.Tests.{le-leb, lt-leb, ne_eqb}
 use lib.Dec.{T, eqb, leb, ltb, ltb→lt, nltb→le}
-use lib.ListN.{length, get_or, get_or-eq_default}
-use Rattle.patterns.specs.declared.Dither.{Dither}
-use Rattle.patterns.specs.declared.Dither.TheVariants.{Off}
-use Rattle.patterns.specs.declared.Kind.TheVariants.{Known, Unknown}
+use lib.ListN.{get_or-eq_default}
+use Rattle.std.specs.Prelude.{Some, None}
 use Rattle.patterns.specs.Kinds.{kinds, kind_of, Way, plain, ordered, diffused, retired, none, way_of}
 use Rattle.patterns.specs.Kinds.{is_way, is_gone, has_matrix, has_kernel, is_kind, is_retired, is_ordered, is_diffusion}
 use Rattle.lists.proofs.Computed.{from, agree}
 
-named : (l : List Dither) (k : ℕ) → k < length l → Known (get_or l k Off) ≡ get_or (map Known l) k Unknown
-named [] k h = absurd (not-suc-le-zero h)
-named (d ∷ l) zero h = refl
-named (d ∷ l) (suc k) h = named l k (le_of_suc-le-suc h)
-
-pub kind_at : (k : ℕ) → k ≤ 10 → Known (get_or kinds k Off) ≡ kind_of k
+pub kind_above : (k : ℕ) → 10 < k → kind_of k ≡ None
 unfolding kind_of
-kind_at k h = named kinds k (omega arith)
-
-pub kind_above : (k : ℕ) → 10 < k → kind_of k ≡ Unknown
-unfolding kind_of
-kind_above k h = get_or-eq_default (map Known kinds) Unknown {n = k} (omega arith)
+kind_above k h = get_or-eq_default (map Some kinds) None {n = k} (omega arith)
 
 pub way_above : (k : ℕ) → 10 < k → way_of k ≡ none
 unfolding way_of

@@ -4,7 +4,7 @@
 use mathlib.Core.Path.{◌≡◌, refl, sym, ap, ◌∙◌, subst}
 use mathlib.Core.Bool.{Bool, true, false, cond, not, ◌&&◌, ◌||◌}
 use mathlib.Core.List.{List, [], ◌∷◌}
-use Prim.Native.Nat.{ℕ, zero, suc, ◌+◌, ◌*◌, ◌%◌, ◌^◌, ◌<◌}
+use Prim.Native.Nat.{ℕ, ◌+◌, ◌*◌, ◌%◌, ◌^◌, ◌<◌}
 use native.Mathlib.Nat.{mul_comm, mul-one}
 use native.Mathlib.Omega.{arith}
 use lib.Dec.{T, eqb, leb, ltb, ltb→lt, eqb→eq, lit≤, lit<}
@@ -13,8 +13,12 @@ use lib.ListN.{length, get_or}
 use lib.Ieee.{Float, nan, inf, fin, up, down, binary32, round, add, div, of_int, of_bits, lt}
 use lib.Ieee.Exact.{HasValue}
 use lib.Ieee.Fits.{and_l, and_r}
+use Rattle.std.specs.Prelude.{Option, Result, Ok, Err}
 use Rattle.replies.specs.Replies.{◌if◌, first_reply, FirstReply}
-use Rattle.replies.proofs.AnswerLaws.{answers_first, value_number, value_promised}
+use Rattle.replies.specs.Refusals.{number_of, Answered}
+use Rattle.replies.specs.declared.Refusal.{Refusal}
+use Rattle.replies.specs.declared.Refusal.TheVariants.{KindOrShift, NoMatrix, RetiredKind}
+use Rattle.replies.proofs.AnswerLaws.{answered, answers_first}
 use Rattle.lists.proofs.Computed.{all, all_at}
 use Rattle.floats.specs.Over.{over, wholef}
 use Rattle.floats.specs.Bounds.{Upto}
@@ -23,12 +27,10 @@ use Rattle.floats.proofs.At.{div_at}
 use Rattle.floats.proofs.Over.{over_value, of_int_over, add-over}
 use Rattle.floats.proofs.Sixteenths.{over_scale}
 use Rattle.floats.proofs.Within.{round_upto}
-use Rattle.patterns.specs.declared.Kind.{Kind}
-use Rattle.patterns.specs.declared.Thresholded.{Thresholded}
-use Rattle.patterns.specs.declared.Thresholded.TheVariants.{At, Refused}
+use Rattle.patterns.specs.declared.Dither.{Dither}
 use Rattle.patterns.specs.Kinds.{kind_of, Way, plain, ordered, diffused, retired, none, way_in, way_of, is_way, is_gone, has_matrix, is_kind, is_retired, is_ordered}
 use Rattle.patterns.specs.Thresholds.{threshold_from, entry, threshold_in, threshold_at}
-use Rattle.patterns.specs.Thresholds.{number_of, threshold_replies, threshold_answer, OrderedThresholdAnswered, threshold_of}
+use Rattle.patterns.specs.Thresholds.{threshold_replies, OrderedThresholdAnswered, threshold_of}
 use Rattle.patterns.proofs.Numbers.{of_all, kind_is, retired_is, ordered_is, ordered_way}
 
 -- ---- the literals of the code
@@ -49,14 +51,43 @@ unfolding of_bits over round
 sixty_four = refl
 
 -- ---- the answer
+-- the answer by how a kind dithers: the threshold, 9 where there is no matrix, 15 where it is retired, 1 where there is no kind
+abbrev pub answer_in : Way → ℕ → ℕ → Result Float Refusal
+answer_in plain x y = Err NoMatrix
+answer_in (ordered m n) x y = Ok (threshold_in (ordered m n) x y)
+answer_in (diffused k h) x y = Err NoMatrix
+answer_in retired x y = Err RetiredKind
+answer_in none x y = Err KindOrShift
+
+-- it is the promised one
+way_promised : (w : Way) (x y : ℕ)
+    → Answered ((1 if not (is_way w)) ∷ (15 if is_gone w) ∷ (9 if not (has_matrix w)) ∷ []) (threshold_in w x y) (answer_in w x y)
+way_promised plain x y = record { number = refl; answer = refl }
+way_promised (ordered m n) x y = record { number = refl; answer = refl }
+way_promised (diffused k h) x y = record { number = refl; answer = refl }
+way_promised retired x y = record { number = refl; answer = refl }
+way_promised none x y = record { number = refl; answer = refl }
+
 module _ (k x y : ℕ) where
-  pub threshold_promised : {r : Thresholded} → r ≡ threshold_of k x y → OrderedThresholdAnswered k x y r
-  threshold_promised e = value_promised number_of (threshold_replies k) _ Refused refl (λ n. refl) e
+  answer_promised : OrderedThresholdAnswered k x y (answer_in (way_of k) x y)
+  unfolding is_kind is_retired is_ordered threshold_at
+  answer_promised = way_promised (way_of k) x y
+
+  answer_by : answer_in (way_of k) x y ≡ threshold_of k x y
+  answer_by = answered _ _ _ answer_promised
+
+  pub threshold_promised : {r : Result Float Refusal} → r ≡ threshold_of k x y → OrderedThresholdAnswered k x y r
+  threshold_promised e = subst (OrderedThresholdAnswered k x y) (answer_by ∙ sym e) answer_promised
+
+  -- by what the number stands for
+  pub promised_as : {o : Option Dither} → kind_of k ≡ o → OrderedThresholdAnswered k x y (answer_in (way_in o) x y)
+  unfolding way_of
+  promised_as e = subst (λ (v : Option Dither). OrderedThresholdAnswered k x y (answer_in (way_in v) x y)) e answer_promised
 
   -- 1 exactly above 10, 15 exactly for 5 and 6, 9 exactly for 0, 9 and 10
   pub number_is : number_of (threshold_of k x y) ≡ cond (leb k 10) (cond (eqb k 5 || eqb k 6) 15 (cond ((leb 1 k && leb k 4) || (eqb k 7 || eqb k 8)) 0 9)) 1
   number_is =
-      value_number number_of (threshold_replies k) _ Refused refl (λ n. refl) (first_reply (threshold_replies k))
+      (threshold_promised refl).number
       ∙ (λ i. first_reply ((1 if not (kind_is k i)) ∷ (15 if retired_is k i) ∷ (9 if not (ordered_is k i)) ∷ []))
       ∙ other (leb k 10) (eqb k 5 || eqb k 6) ((leb 1 k && leb k 4) || (eqb k 7 || eqb k 8))
     where
@@ -66,41 +97,16 @@ module _ (k x y : ℕ) where
       other true false false = refl
       other false t u = refl
 
--- and it is the first that applies
-pub threshold_first : (k x y : ℕ) {r : Thresholded} → OrderedThresholdAnswered k x y r → FirstReply (threshold_replies k) (number_of r)
-threshold_first k x y p = answers_first _ _ _ tt p
-
--- the answer by how a kind dithers: the threshold, 9 where there is no matrix, 15 where it is retired, 1 where there is no kind
-abbrev pub answer_in : Way → ℕ → ℕ → Thresholded
-answer_in plain x y = Refused 9
-answer_in (ordered m n) x y = At (threshold_in (ordered m n) x y)
-answer_in (diffused k h) x y = Refused 9
-answer_in retired x y = Refused 15
-answer_in none x y = Refused 1
-
-answer_by : (k x y : ℕ) → answer_in (way_of k) x y ≡ threshold_of k x y
-unfolding is_kind is_retired is_ordered threshold_at
-answer_by k x y = go (way_of k) refl
-  where
-    go : (w : Way) → w ≡ way_of k
-        → answer_in w x y ≡ threshold_answer k x y (first_reply ((1 if not (is_way w)) ∷ (15 if is_gone w) ∷ (9 if not (has_matrix w)) ∷ []))
-    go plain e = refl
-    go (ordered m n) e = ap (λ (w : Way). At (threshold_in w x y)) e
-    go (diffused l h) e = refl
-    go retired e = refl
-    go none e = refl
-
--- by what the number stands for
-pub answer_is : (k x y : ℕ) (r : Kind) → r ≡ kind_of k → answer_in (way_in r) x y ≡ threshold_of k x y
-unfolding way_of
-answer_is k x y r e = ap (λ (v : Kind). answer_in (way_in v) x y) e ∙ answer_by k x y
+  -- and it is the first that applies
+  pub threshold_first : {r : Result Float Refusal} → OrderedThresholdAnswered k x y r → FirstReply (threshold_replies k) (number_of r)
+  threshold_first p = answers_first _ _ _ tt p
 
 -- an ordered kind's answer is its threshold
-pub ordered_answer : (k x y : ℕ) → T (is_ordered k) → threshold_of k x y ≡ At (threshold_at k x y)
+pub ordered_answer : (k x y : ℕ) → T (is_ordered k) → threshold_of k x y ≡ Ok (threshold_at k x y)
 unfolding is_ordered threshold_at
 ordered_answer k x y h = sym (answer_by k x y) ∙ go (way_of k) h
   where
-    go : (w : Way) → T (has_matrix w) → answer_in w x y ≡ At (threshold_in w x y)
+    go : (w : Way) → T (has_matrix w) → answer_in w x y ≡ Ok (threshold_in w x y)
     go plain h = absurd h
     go (ordered m n) h = refl
     go (diffused k l) h = absurd h
@@ -121,7 +127,7 @@ repeats k x y x' y' p q = sym (answer_by k x y) ∙ go (way_of k) p q ∙ answer
   where
     go : (w : Way) → x % size_in w ≡ x' % size_in w → y % size_in w ≡ y' % size_in w → answer_in w x y ≡ answer_in w x' y'
     go plain p q = refl
-    go (ordered m n) p q = λ i. At (threshold_from (get_or (get_or m (q i) []) (p i) 0) (wholef (pos n)))
+    go (ordered m n) p q = λ i. Ok (threshold_from (get_or (get_or m (q i) []) (p i) 0) (wholef (pos n)))
     go (diffused k h) p q = refl
     go retired p q = refl
     go none p q = refl

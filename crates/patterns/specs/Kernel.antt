@@ -1,15 +1,10 @@
 -- Kernels of error diffusion, and where a pixel's sends arrive. Definitions only.
 -- Written from document 01, "Diffusion runs row by row, left to right": which pixels get how many sixteenths, in the source's order of
 -- targets, and "Targets outside the picture are dropped".
-use Rattle.std.specs.Prelude.{ℕ, ◌+◌, ◌*◌, ◌/◌, ◌%◌, ◌≡◌, Bool, true, false, cond, ◌&&◌, ◌||◌, List, [], ◌∷◌, map, T, ltb, leb, ℤ, pos, negsuc, nat_abs, ◌+ℤ◌}
+use Rattle.std.specs.Prelude.{ℕ, ◌+◌, ◌*◌, ◌/◌, ◌%◌, Bool, true, false, cond, ◌&&◌, ◌||◌, List, [], ◌∷◌, ltb, leb, ℤ, pos, negsuc, nat_abs, ◌+ℤ◌}
+use Rattle.patterns.specs.declared.Target.{Target}
 
--- a target lies dx columns to the right and dy rows down, and gets weight sixteenths of the residual
-pub record Target : Type 0 where
-  pub dx : ℤ
-  pub dy : ℕ
-  pub weight : ℕ
-
--- columns to the right, rows down, weight
+-- a target: columns to the right, rows down, and the weight, in sixteenths of the residual
 abbrev pub target : ℤ → ℕ → ℕ → Target
 target x y w = record { dx = x; dy = y; weight = w }
 
@@ -74,10 +69,3 @@ all_near (t ∷ k) = near t && all_near k
 unfoldable pub weighted : List Target → Bool
 weighted [] = true
 weighted (t ∷ k) = ltb 0 t.weight && weighted k
-
--- the arrays hold a kernel's columns, rows and weights, and its targets are near
-pub record Arrays (k : List Target) (dx : List ℤ) (dy weight : List ℕ) : Type 0 where
-  pub columns : dx ≡ map (λ t. t.dx) k
-  pub rows : dy ≡ map (λ t. t.dy) k
-  pub weights : weight ≡ map (λ t. t.weight) k
-  pub close : T (all_near k)

@@ -2,22 +2,21 @@
 -- Written from document 01: "Dither kinds are numbered 0 to 10 in the source's order"; "n being 4, 16, 64 for Bayer, 2 for checker and
 -- lines"; the diffusion paragraph, for the kernels; "Atkinson's held-back weight of 4"; and "Bounds and replies", for the error cells. And from
 -- document 02, Ask 9: "Kinds 5 and 6 are retired and never given to another kind", "The other kinds keep their numbers".
-use Rattle.std.specs.Prelude.{ℕ, ◌*◌, Bool, true, false, cond, List, [], ◌∷◌, map, get_or}
+use Rattle.std.specs.Prelude.{ℕ, ◌*◌, Bool, true, false, cond, List, [], ◌∷◌, map, get_or, Option, Some, None}
 use Rattle.patterns.specs.declared.Dither.{Dither}
 use Rattle.patterns.specs.declared.Dither.TheVariants.{Off, Bayer2x2, Bayer4x4, Bayer8x8, Checker}
 use Rattle.patterns.specs.declared.Dither.TheVariants.{StippleV, StippleH, LineV, LineH, Atkinson, FloydSteinberg}
-use Rattle.patterns.specs.declared.Kind.{Kind}
-use Rattle.patterns.specs.declared.Kind.TheVariants.{Known, Unknown}
 use Rattle.patterns.specs.Matrices.{bayer2x2, bayer4x4, bayer8x8, checker, line_v, line_h}
-use Rattle.patterns.specs.Kernel.{Target, atkinson, floyd_steinberg}
+use Rattle.patterns.specs.declared.Target.{Target}
+use Rattle.patterns.specs.Kernel.{atkinson, floyd_steinberg}
 
 -- the kinds in the source's order: a kind's number is its place here, a retired kind's too
 abbrev pub kinds : List Dither
 kinds = Off ∷ Bayer2x2 ∷ Bayer4x4 ∷ Bayer8x8 ∷ Checker ∷ StippleV ∷ StippleH ∷ LineV ∷ LineH ∷ Atkinson ∷ FloydSteinberg ∷ []
 
 -- the kind with a number
-unfoldable pub kind_of : ℕ → Kind
-kind_of k = get_or (map Known kinds) k Unknown
+unfoldable pub kind_of : ℕ → Option Dither
+kind_of k = get_or (map Some kinds) k None
 
 -- how a kind dithers: not at all, by a matrix and its n, or by a kernel and the sixteenths of a residual that it holds back; or it is retired, and
 -- nothing is drawn by it; where there is no kind, there is no way
@@ -44,9 +43,9 @@ way Atkinson = diffused atkinson 4
 way FloydSteinberg = diffused floyd_steinberg 0
 
 -- the same of what a number stands for
-abbrev pub way_in : Kind → Way
-way_in (Known d) = way d
-way_in Unknown = none
+abbrev pub way_in : Option Dither → Way
+way_in (Some d) = way d
+way_in None = none
 
 -- how the kind with a number dithers
 unfoldable pub way_of : ℕ → Way

@@ -2,14 +2,13 @@
 -- Written from document 01, "Choosing colours": "Threshold = (entry + 0.5) / n [..]; row y, column x, both reduced to the matrix size";
 -- each operation is rounded to an f32, in the Rust's order. Refusals 1 and 9 are those of "Bounds and replies"; 15 is document 02's, Ask 9, "directly
 -- after 1".
-use Rattle.std.specs.Prelude.{ℕ, ◌%◌, not, List, [], ◌∷◌, pos, length, get_or, Float}
+use Rattle.std.specs.Prelude.{ℕ, ◌%◌, not, List, [], ◌∷◌, pos, length, get_or, Float, Result}
 use Rattle.std.specs.Float.{nan, binary32}
 use Rattle.std.specs.Float.Ieee.{add, div, of_int}
 use Rattle.replies.specs.Replies.{Reply, ◌if◌, first_reply}
-use Rattle.replies.specs.Answers.{Answers, value_or}
+use Rattle.replies.specs.Refusals.{answer, Answered}
+use Rattle.replies.specs.declared.Refusal.{Refusal}
 use Rattle.floats.specs.Over.{over, wholef}
-use Rattle.patterns.specs.declared.Thresholded.{Thresholded}
-use Rattle.patterns.specs.declared.Thresholded.TheVariants.{At, Refused}
 use Rattle.patterns.specs.Kinds.{Way, plain, ordered, diffused, retired, none, way_of, is_kind, is_retired, is_ordered}
 
 -- (entry + 0.5) / n
@@ -37,24 +36,15 @@ unfoldable pub threshold_at : ℕ → ℕ → ℕ → Float
 threshold_at kind x y = threshold_in (way_of kind) x y
 
 -- ---- what `ordered_threshold` answers
--- document 01's number of an answer
-abbrev pub number_of : Thresholded → ℕ
-number_of (At t) = 0
-number_of (Refused n) = n
-
 -- the numbers, and when each applies: 1 where there is no such kind, 15 where it is retired, 9 where it has no matrix (which these are:
 -- proofs/Thresholds)
 abbrev pub threshold_replies : (kind : ℕ) → List Reply
 threshold_replies kind = (1 if not (is_kind kind)) ∷ (15 if is_retired kind) ∷ (9 if not (is_ordered kind)) ∷ []
 
--- what is answered with a number: the threshold with 0, and else the number alone
-abbrev pub threshold_answer : (kind x y : ℕ) → ℕ → Thresholded
-threshold_answer kind x y = value_or (At (threshold_at kind x y)) Refused
-
 -- what `ordered_threshold` promises of its answer r
-abbrev pub OrderedThresholdAnswered : (kind x y : ℕ) → Thresholded → Type 0
-OrderedThresholdAnswered kind x y r = Answers number_of (threshold_replies kind) (threshold_answer kind x y) r
+abbrev pub OrderedThresholdAnswered : (kind x y : ℕ) → Result Float Refusal → Type 0
+OrderedThresholdAnswered kind x y r = Answered (threshold_replies kind) (threshold_at kind x y) r
 
 -- the answer that has the promise (`answered` in replies/proofs/AnswerLaws)
-abbrev pub threshold_of : (kind x y : ℕ) → Thresholded
-threshold_of kind x y = threshold_answer kind x y (first_reply (threshold_replies kind))
+abbrev pub threshold_of : (kind x y : ℕ) → Result Float Refusal
+threshold_of kind x y = answer (threshold_at kind x y) (first_reply (threshold_replies kind))

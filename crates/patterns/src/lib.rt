@@ -1,16 +1,19 @@
 // Thresholds and kernels: the kinds of dithering by number, the threshold matrices, and the two kernels of error diffusion.
-// The kinds, the matrices and `ordered_threshold` are named as in src/dither.rs, and the kinds and each kernel's targets
-// stand in its order. There a kernel is one list of tuples and a kind has no number; here a kernel is three arrays side by
-// side, and all that goes by a kind's number is added. The stipples are retired: their numbers are theirs, and no more.
+// The kinds, the matrices, the kernels and `ordered_threshold` are named as in src/dither.rs, and the kinds and each kernel's
+// targets stand in its order. There a kernel is a list of tuples and a kind has no number; here a kernel is an array of
+// targets, and all that goes by a kind's number is added. The stipples are retired: their numbers are theirs, and no more.
 #![tactic(auto)]
 
-ghost use Rattle.std.specs.Prelude.{◌≡◌, ◌≤◌, T};
-ghost use Rattle.patterns.specs.Kernel.{Arrays, atkinson, floyd_steinberg};
+ghost use Rattle.std.specs.Prelude.{◌≡◌, ◌<◌, ◌≤◌, T, ok_or};
+ghost use Rattle.replies.specs.declared.Refusal.TheVariants.{KindOrShift};
+ghost use Rattle.patterns.specs.Kernel.{atkinson, floyd_steinberg, all_near};
 ghost use Rattle.patterns.specs.Kinds.{kind_of, is_kind, is_retired, is_ordered, is_diffusion, cells_needed};
 ghost use Rattle.patterns.specs.Thresholds.{threshold_from, entry_in, threshold_at, OrderedThresholdAnswered};
 
+use replies::Refusal;
+
 // A kind of dithering.
-#[derive(Clone, Copy)]
+#[derive(Clone, Copy, Debug, PartialEq, Eq, Hash)]
 pub enum Dither {
     // No dithering.
     Off,
@@ -36,34 +39,43 @@ pub enum Dither {
     FloydSteinberg,
 }
 
-// What a number stands for.
-#[derive(Clone, Copy)]
-pub enum Kind {
-    Known(Dither),
-    Unknown,
-}
+// The kind with a number; 1 for a number above 10. No array of them: that would be laid out on the stack at each call.
+impl TryFrom<u32> for Dither {
+    type Error = Refusal;
 
-// The kind with a number. No array of them: that would be laid out on the stack at each call.
-pub fn dither_of(kind: u32) -> Kind
-    ensures { result ≡ kind_of kind }
-{
-    match kind {
-        0 => Kind::Known(Dither::Off),
-        1 => Kind::Known(Dither::Bayer2x2),
-        2 => Kind::Known(Dither::Bayer4x4),
-        3 => Kind::Known(Dither::Bayer8x8),
-        4 => Kind::Known(Dither::Checker),
-        5 => Kind::Known(Dither::StippleV),
-        6 => Kind::Known(Dither::StippleH),
-        7 => Kind::Known(Dither::LineV),
-        8 => Kind::Known(Dither::LineH),
-        9 => Kind::Known(Dither::Atkinson),
-        10 => Kind::Known(Dither::FloydSteinberg),
-        _ => Kind::Unknown,
+    ghost try_from_gives = { λ kind r. r ≡ ok_or (kind_of kind) KindOrShift };
+
+    #[tactic(auto, using(crate::proofs::Numbers::kind_above), unfolding(crate::specs::Kinds::kind_of))]
+    fn try_from(kind: u32) -> Result<Dither, Refusal> {
+        match kind {
+            0 => Ok(Dither::Off),
+            1 => Ok(Dither::Bayer2x2),
+            2 => Ok(Dither::Bayer4x4),
+            3 => Ok(Dither::Bayer8x8),
+            4 => Ok(Dither::Checker),
+            5 => Ok(Dither::StippleV),
+            6 => Ok(Dither::StippleH),
+            7 => Ok(Dither::LineV),
+            8 => Ok(Dither::LineH),
+            9 => Ok(Dither::Atkinson),
+            10 => Ok(Dither::FloydSteinberg),
+            _ => Err(Refusal::KindOrShift),
+        }
     }
 }
 
+// The kind with a number, if there is one.
+pub fn dither_of(kind: u32) -> Option<Dither>
+    ensures { result ≡ kind_of kind }
+{
+    Dither::try_from(kind).ok()
+}
+
+// Kept: the next four test the number that C gives, and not the kind: a drawing tests it at each pixel, and by `dither_of` a
+// test takes half as long again.
+
 // Whether there is a kind with this number, retired or not.
+#[tactic(auto, using(crate::proofs::Numbers::kind_is))]
 pub fn is_kind(kind: u32) -> bool
     ensures { result ≡ is_kind kind }
 {
@@ -78,6 +90,7 @@ pub fn is_retired(kind: u32) -> bool
 }
 
 // Whether a kind dithers by a matrix: from Bayer2x2 to Checker, LineV or LineH.
+#[tactic(auto, using(crate::proofs::Numbers::ordered_is))]
 pub fn is_ordered(kind: u32) -> bool
     ensures { result ≡ is_ordered kind }
 {
@@ -85,6 +98,7 @@ pub fn is_ordered(kind: u32) -> bool
 }
 
 // Whether a kind diffuses error: Atkinson or FloydSteinberg.
+#[tactic(auto, using(crate::proofs::Numbers::diffusion_is))]
 pub fn is_diffusion(kind: u32) -> bool
     ensures { result ≡ is_diffusion kind }
 {
@@ -93,14 +107,12 @@ pub fn is_diffusion(kind: u32) -> bool
 
 // How many error cells a picture needs: three a pixel for diffusion, else none. No public call: the caller sees to the
 // size.
+#[tactic(auto, unfolding(crate::specs::Kinds::cells_needed))]
 pub fn cells_needed(kind: u32, size: usize) -> usize
     requires { size ≤ 1048576 }
     ensures { result ≡ cells_needed kind size }
 {
-    if is_diffusion(kind) {
-        return 3 * size;
-    }
-    0
+    if is_diffusion(kind) { 3 * size } else { 0 }
 }
 
 // ---- thresholds
@@ -139,49 +151,27 @@ fn threshold_from(entry: u8, n: f32) -> f32
 }
 
 // The threshold at row y and column x of a matrix, both reduced to its size.
-fn threshold_2x2(matrix: [[u8; 2]; 2], n: f32, x: u32, y: u32) -> f32
-    ensures { result ≡ threshold_from (entry_in 2 matrix x y) n }
+fn threshold_in<const N: usize>(matrix: [[u8; N]; N], n: f32, x: u32, y: u32) -> f32
+    requires { 0 < N }
+    ensures { result ≡ threshold_from (entry_in N matrix.entry x y) n }
 {
-    threshold_from(matrix[(y % 2) as usize][(x % 2) as usize], n)
-}
-
-fn threshold_4x4(matrix: [[u8; 4]; 4], n: f32, x: u32, y: u32) -> f32
-    ensures { result ≡ threshold_from (entry_in 4 matrix x y) n }
-{
-    threshold_from(matrix[(y % 4) as usize][(x % 4) as usize], n)
-}
-
-fn threshold_8x8(matrix: [[u8; 8]; 8], n: f32, x: u32, y: u32) -> f32
-    ensures { result ≡ threshold_from (entry_in 8 matrix x y) n }
-{
-    threshold_from(matrix[(y % 8) as usize][(x % 8) as usize], n)
-}
-
-// What `ordered_threshold` answers.
-#[derive(Clone, Copy)]
-pub enum Thresholded {
-    At(f32),
-    Refused(u8),
+    threshold_from(matrix[y as usize % N][x as usize % N], n)
 }
 
 // The threshold of a kind at column x and row y; 1 for a number above 10; 15 for a retired kind; 9 for one that has no
 // matrix.
-pub fn ordered_threshold(kind: u32, x: u32, y: u32) -> Thresholded
+pub fn ordered_threshold(kind: u32, x: u32, y: u32) -> Result<f32, Refusal>
     ensures { OrderedThresholdAnswered kind x y result }
 {
-    let Kind::Known(dither) = dither_of(kind) else {
-        return Thresholded::Refused(1);
-    };
-    match dither {
-        Dither::Bayer2x2 => Thresholded::At(threshold_2x2(BAYER_2X2_MATRIX, 4.0, x, y)),
-        Dither::Bayer4x4 => Thresholded::At(threshold_4x4(BAYER_4X4_MATRIX, 16.0, x, y)),
-        Dither::Bayer8x8 => Thresholded::At(threshold_8x8(BAYER_8X8_MATRIX, 64.0, x, y)),
-        Dither::Checker => Thresholded::At(threshold_2x2(CHECKER_MATRIX, 2.0, x, y)),
-        Dither::StippleV => Thresholded::Refused(15),
-        Dither::StippleH => Thresholded::Refused(15),
-        Dither::LineV => Thresholded::At(threshold_2x2(LINE_V_MATRIX, 2.0, x, y)),
-        Dither::LineH => Thresholded::At(threshold_2x2(LINE_H_MATRIX, 2.0, x, y)),
-        Dither::Off | Dither::Atkinson | Dither::FloydSteinberg => Thresholded::Refused(9),
+    match Dither::try_from(kind)? {
+        Dither::Bayer2x2 => Ok(threshold_in(BAYER_2X2_MATRIX, 4.0, x, y)),
+        Dither::Bayer4x4 => Ok(threshold_in(BAYER_4X4_MATRIX, 16.0, x, y)),
+        Dither::Bayer8x8 => Ok(threshold_in(BAYER_8X8_MATRIX, 64.0, x, y)),
+        Dither::Checker => Ok(threshold_in(CHECKER_MATRIX, 2.0, x, y)),
+        Dither::StippleV | Dither::StippleH => Err(Refusal::RetiredKind),
+        Dither::LineV => Ok(threshold_in(LINE_V_MATRIX, 2.0, x, y)),
+        Dither::LineH => Ok(threshold_in(LINE_H_MATRIX, 2.0, x, y)),
+        Dither::Off | Dither::Atkinson | Dither::FloydSteinberg => Err(Refusal::NoMatrix),
     }
 }
 
@@ -190,60 +180,92 @@ pub fn threshold_at(kind: u32, x: u32, y: u32) -> f32
     requires { T (is_ordered kind) }
     ensures { result ≡ threshold_at kind x y }
 {
-    match ordered_threshold(kind, x, y) {
-        Thresholded::At(threshold) => threshold,
-        Thresholded::Refused(_) => 0.0,
-    }
+    ordered_threshold(kind, x, y).unwrap()
 }
 
-// ---- kernels of error diffusion: for each target how many columns to the right, how many rows down, and the weight in
-// sixteenths, which is sixteen times the source's factor
+// ---- kernels of error diffusion
 
-const ATKINSON_DX: [i32; 6] = [1, 2, -1, 0, 1, 0];
-
-const ATKINSON_DY: [u32; 6] = [0, 0, 1, 1, 1, 2];
-
-const ATKINSON_WEIGHT: [u8; 6] = [2, 2, 2, 2, 2, 2];
-
-const FLOYD_STEINBERG_DX: [i32; 4] = [1, -1, 0, 1];
-
-const FLOYD_STEINBERG_DY: [u32; 4] = [0, 1, 1, 1];
-
-const FLOYD_STEINBERG_WEIGHT: [u8; 4] = [7, 3, 5, 1];
-
-// A kernel's three arrays, side by side. Their lengths differ, so each kernel has a type.
-#[derive(Clone, Copy)]
-pub struct AtkinsonKernel {
-    pub dx: [i32; 6],
-    pub dy: [u32; 6],
-    pub weight: [u8; 6],
+// A target lies dx columns to the right and dy rows down, and gets weight sixteenths of the residual: sixteen times the
+// source's factor.
+#[derive(Clone, Copy, Debug, PartialEq, Eq, Hash)]
+pub struct Target {
+    pub dx: i32,
+    pub dy: u32,
+    pub weight: u8,
 }
 
-#[derive(Clone, Copy)]
-pub struct FloydSteinbergKernel {
-    pub dx: [i32; 4],
-    pub dy: [u32; 4],
-    pub weight: [u8; 4],
-}
+pub type ErrorKernel<const N: usize> = [Target; N];
 
-// ATKINSON_KERNEL of the source.
-pub fn atkinson_kernel() -> AtkinsonKernel
-    ensures { Arrays atkinson result.dx result.dy result.weight }
+const ATKINSON_KERNEL: ErrorKernel<6> = [
+    Target {
+        dx: 1,
+        dy: 0,
+        weight: 2,
+    },
+    Target {
+        dx: 2,
+        dy: 0,
+        weight: 2,
+    },
+    Target {
+        dx: -1,
+        dy: 1,
+        weight: 2,
+    },
+    Target {
+        dx: 0,
+        dy: 1,
+        weight: 2,
+    },
+    Target {
+        dx: 1,
+        dy: 1,
+        weight: 2,
+    },
+    Target {
+        dx: 0,
+        dy: 2,
+        weight: 2,
+    },
+];
+
+const FLOYD_STEINBERG_KERNEL: ErrorKernel<4> = [
+    Target {
+        dx: 1,
+        dy: 0,
+        weight: 7,
+    },
+    Target {
+        dx: -1,
+        dy: 1,
+        weight: 3,
+    },
+    Target {
+        dx: 0,
+        dy: 1,
+        weight: 5,
+    },
+    Target {
+        dx: 1,
+        dy: 1,
+        weight: 1,
+    },
+];
+
+// The constants, for other crates; each target is near.
+// Kept: a function for each, since a constant has no contract.
+#[tactic(auto, unfolding(crate::specs::Kernel::all_near))]
+pub fn atkinson_kernel() -> ErrorKernel<6>
+    ensures targets { result ≡ atkinson }
+    ensures close { T (all_near result) }
 {
-    AtkinsonKernel {
-        dx: ATKINSON_DX,
-        dy: ATKINSON_DY,
-        weight: ATKINSON_WEIGHT,
-    }
+    ATKINSON_KERNEL
 }
 
-// FLOYD_STEINBERG_KERNEL of the source.
-pub fn floyd_steinberg_kernel() -> FloydSteinbergKernel
-    ensures { Arrays floyd_steinberg result.dx result.dy result.weight }
+#[tactic(auto, unfolding(crate::specs::Kernel::all_near))]
+pub fn floyd_steinberg_kernel() -> ErrorKernel<4>
+    ensures targets { result ≡ floyd_steinberg }
+    ensures close { T (all_near result) }
 {
-    FloydSteinbergKernel {
-        dx: FLOYD_STEINBERG_DX,
-        dy: FLOYD_STEINBERG_DY,
-        weight: FLOYD_STEINBERG_WEIGHT,
-    }
+    FLOYD_STEINBERG_KERNEL
 }

@@ -8,6 +8,7 @@ use Rattle.color.specs.Color.{normalized_at, is_transparent}
 use Rattle.reducing.specs.declared.Reducing.{Reducing}
 use Rattle.reducing.specs.declared.Reducing.TheVariants.{ByAlpha, Grey, OpaqueColor}
 use Rattle.reducing.specs.Reduce.{reduce_color}
+use Rattle.picture.specs.declared.Pixels.{Pixels}
 
 -- as it was lent
 abbrev pub source_at : List ℕ → ℕ → NormalizedColor
@@ -25,6 +26,10 @@ basis OpaqueColor pixels opaque = opaque
 -- pixel i of these, reduced through the table
 unfoldable pub reduced_by : Reducing → (reduction pixels : List ℕ) → ℕ → ReducedColor
 reduced_by by reduction pixels i = reduce_color by reduction (source_at pixels i)
+
+-- the reduced colours of pixels that carry their own way and table
+abbrev pub reduced_of : Pixels → ℕ → ReducedColor
+reduced_of pixels = reduced_by pixels.reducing pixels.reduction.now pixels.bytes.now
 
 -- pixel i is not transparent
 unfoldable pub is_seen : (ℕ → ReducedColor) → ℕ → Bool

@@ -5,7 +5,7 @@ ghost use Rattle.std.specs.Prelude.{◌≡◌, true, ◌+◌, ◌*◌, ◌<◌, 
 ghost use Rattle.reducing.specs.declared.Reducing.{Reducing};
 ghost use Rattle.reducing.specs.Reduce.{keeps_channels};
 ghost use Rattle.picture.specs.Bounds.{size_wrong, origin_wrong, table_wrong, opaque_needed, lent_wrong, side_wrong};
-ghost use Rattle.picture.specs.Pixels.{source_at, basis, reduced_by, is_seen, seen_from};
+ghost use Rattle.picture.specs.Pixels.{source_at, basis, reduced_by, reduced_of, is_seen, seen_from};
 
 use color::{NormalizedColor, ReducedColor};
 use reducing::Reducing;
@@ -18,6 +18,7 @@ pub fn size_wrong(width: u32, height: u32) -> bool
 }
 
 // Whether a side that starts at an origin ends above 4,294,967,295.
+#[tactic(auto, unfolding(crate::specs::Bounds::origin_wrong))]
 pub fn origin_wrong(origin: u32, side: u32) -> bool
     ensures { result ≡ origin_wrong origin side }
 {
@@ -25,6 +26,7 @@ pub fn origin_wrong(origin: u32, side: u32) -> bool
 }
 
 // Whether a lent table has not 256 entries.
+#[tactic(auto, unfolding(crate::specs::Bounds::table_wrong))]
 fn table_wrong(entries: usize) -> bool
     ensures { result ≡ table_wrong entries }
 {
@@ -39,13 +41,15 @@ fn opaque_needed(reducing: Reducing, n: usize) -> usize
 {
     match reducing {
         Reducing::ByAlpha => 0,
-        Reducing::Grey => 4 * n,
-        Reducing::OpaqueColor => 4 * n,
+        Reducing::Grey | Reducing::OpaqueColor => 4 * n,
     }
 }
 
 // Whether a table or pixels that every call on a picture is lent have not the length that n pixels need. No public call: the
 // caller sees to the number of pixels.
+//
+// Kept as four lengths: each call has them among others in its own `Lengths`, of which the definitions of its replies speak, and
+// would take them out to make a struct of them here.
 pub fn lent_wrong(
     reducing: Reducing,
     reduction: usize,
@@ -62,6 +66,7 @@ pub fn lent_wrong(
 }
 
 // Whether a tile's side is not from 1 to 4,096.
+#[tactic(auto, unfolding(crate::specs::Bounds::side_wrong))]
 pub fn side_wrong(side: u32) -> bool
     ensures { result ≡ side_wrong side }
 {
@@ -82,46 +87,57 @@ pub fn basis<'a>(reducing: Reducing, pixels: &'a [u8], opaque: &'a [u8]) -> &'a 
 {
     match reducing {
         Reducing::ByAlpha => pixels,
-        Reducing::Grey => opaque,
-        Reducing::OpaqueColor => opaque,
+        Reducing::Grey | Reducing::OpaqueColor => opaque,
     }
 }
 
-// Pixel i reduced: the one function that reduces a picture's pixels. No public call: the caller sees to the lengths.
-pub fn reduced_at(reducing: Reducing, reduction: &[u8], basis: &[u8], i: usize) -> ReducedColor
-    requires { (length reduction.now ≡ 256) × (4 * i + 3 < length basis.now) }
-    ensures { result ≡ reduced_by reducing reduction.now basis.now i }
-{
-    reducing::reduce_color(reducing, reduction, source_at(basis, i))
+// Pixels that reduce, with the way and the table by which they do. They always travel together.
+#[derive(Clone, Copy)]
+pub struct Pixels<'a> {
+    pub reducing: Reducing,
+    pub reduction: &'a [u8; 256],
+    pub bytes: &'a [u8],
 }
 
-// The red that pixel i reduces to where it is seen and its own channels are kept; where not, some number. Neither its alpha nor
-// its luma needs a look: that is for a test that few pixels pass. No public call: the caller sees to the lengths.
-pub fn red_at(reduction: &[u8], basis: &[u8], i: usize) -> u8
-    requires { (length reduction.now ≡ 256) × (4 * i + 3 < length basis.now) }
-    ensures { (by : Reducing) → let reduced = reduced_by by reduction.now basis.now in
-        keeps_channels by ≡ true → is_seen reduced i ≡ true → result ≡ (reduced i).0.r }
-{
-    let c = source_at(basis, i);
-    color::looked_up(reduction, c.0.r)
+impl Pixels<'_> {
+    // Pixel i reduced: the one function that reduces a picture's pixels. No public call: the caller sees to the length.
+    #[tactic(auto, unfolding(crate::specs::Pixels::reduced_by))]
+    pub fn reduced_at(&self, i: usize) -> ReducedColor
+        requires { 4 * i + 3 < length self.now.bytes.now }
+        ensures { result ≡ reduced_of self.now i }
+    {
+        reducing::reduce_color(self.reducing, self.reduction, source_at(self.bytes, i))
+    }
+
+    // The red that pixel i reduces to where it is seen and its own channels are kept; where not, some number. Neither its alpha
+    // nor its luma needs a look: that is for a test that few pixels pass. No public call: the caller sees to the length.
+    pub fn red_at(&self, i: usize) -> u8
+        requires { 4 * i + 3 < length self.now.bytes.now }
+        ensures { (by : Reducing) → let reduced = reduced_by by self.now.reduction.now self.now.bytes.now in
+            keeps_channels by ≡ true → is_seen reduced i ≡ true → result ≡ (reduced i).0.r }
+    {
+        let c = source_at(self.bytes, i);
+        color::looked_up(self.reduction, c.0.r)
+    }
 }
 
 // Pixel i of a picture reduced, from what every call is lent. No public call: the caller sees to the lengths.
 pub fn reduced_in(
     reducing: Reducing,
-    reduction: &[u8],
+    reduction: &[u8; 256],
     pixels: &[u8],
     opaque: &[u8],
     i: usize,
 ) -> ReducedColor
-    requires { (length reduction.now ≡ 256) × (4 * i + 3 < length (basis reducing pixels.now opaque.now)) }
+    requires { 4 * i + 3 < length (basis reducing pixels.now opaque.now) }
     ensures { result ≡ reduced_by reducing reduction.now (basis reducing pixels.now opaque.now) i }
 {
-    match reducing {
-        Reducing::ByAlpha => reduced_at(reducing, reduction, pixels, i),
-        Reducing::Grey => reduced_at(reducing, reduction, opaque, i),
-        Reducing::OpaqueColor => reduced_at(reducing, reduction, opaque, i),
-    }
+    let basis = Pixels {
+        reducing,
+        reduction,
+        bytes: basis(reducing, pixels, opaque),
+    };
+    basis.reduced_at(i)
 }
 
 // Whether pixel i is not transparent, by its own alpha and the least that is seen (`reducing::least_alpha`): no look at the

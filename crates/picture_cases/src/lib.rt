@@ -8,34 +8,17 @@ mod modes;
 mod pictures;
 mod rooms;
 
-use recorded::word;
+use recorded::Room;
 use reducing::Reducing;
 
 // Whether a call is one on pictures. These are lent the two tables.
 pub fn has_tables(letter: u8) -> bool {
-    (letter == b'c') | ((letter == b'q') | (letter == b'x'))
+    matches!(letter, b'c' | b'q' | b'x')
 }
 
-// How a case reduces, where its number is one of a reduction.
-#[derive(Clone, Copy)]
-enum Named {
-    As(Reducing),
-    Nothing,
-}
-
-// Token 3 of every call.
-fn reducing_of(room: &[u8]) -> Named {
-    match word(room, 3) {
-        0 => Named::As(Reducing::ByAlpha),
-        1 => Named::As(Reducing::Grey),
-        2 => Named::As(Reducing::OpaqueColor),
-        _ => Named::Nothing,
-    }
-}
-
-// Whether our answer to a case is the recorded one.
-pub fn same(letter: u8, room: &[u8]) -> bool {
-    let Named::As(reducing) = reducing_of(room) else {
+// Whether our answer to a case is the recorded one. Token 3 of every call is how it reduces.
+pub fn same(letter: u8, room: &Room) -> bool {
+    let Ok(reducing) = Reducing::try_from(room.word(3)) else {
         return false;
     };
     match letter {

@@ -1,131 +1,76 @@
 // `dither_to_mode`: a case lends the recorded rooms, pixels and cells, cut to their length, and compares them afterwards.
-use dither::{Dithered, Settings};
-use drawing::ColorZero;
-use recorded::{
-    ANY, are_cells, are_floats, bytes_into, floats, is_byte, is_empty, is_word, number, part,
-    reduced, shaped, up_to, word,
-};
+use dither::{DitherError, Settings};
+use recorded::{ANY, BYTE, Room, WORD};
 use reducing::Reducing;
 
-// Colour zero: a flag, and the colour that it stands for.
-fn zero_of(room: &[u8]) -> ColorZero {
-    if number(room, 12) == 0 {
-        return ColorZero::Absent;
-    }
-    ColorZero::Is(reduced(room, 13))
-}
-
-fn settings_of(reducing: Reducing, room: &[u8]) -> Settings {
-    let zero = zero_of(room);
+// Colour zero is a flag, and the colour that it stands for.
+fn settings_of(reducing: Reducing, room: &Room) -> Settings {
     Settings {
-        kind: word(room, 4),
-        shift: word(room, 2),
+        kind: room.word(4),
+        shift: room.word(2),
         reducing,
-        width: word(room, 5),
-        height: word(room, 6),
-        origin_x: word(room, 7),
-        origin_y: word(room, 8),
-        tile_width: word(room, 9),
-        tile_height: word(room, 10),
-        limit: word(room, 11),
-        zero,
+        width: room.word(5),
+        height: room.word(6),
+        origin_x: room.word(7),
+        origin_y: room.word(8),
+        tile_width: room.word(9),
+        tile_height: room.word(10),
+        limit: room.word(11),
+        zero: (room.number(12) != 0).then(|| room.reduced(13)),
     }
-}
-
-// The recorded contents, before the call.
-fn lend(
-    room: &[u8],
-    places: &mut [u8],
-    oklab: &mut [f32],
-    out: &mut [u8],
-    cells: &mut [i16],
-) -> bool {
-    (bytes_into(room, 16, places) & floats(room, 17, oklab))
-        & (bytes_into(room, 18, out) & recorded::cells(room, 19, cells))
-}
-
-fn call(
-    reducing: Reducing,
-    room: &[u8],
-    places: &mut [u8],
-    oklab: &mut [f32],
-    out: &mut [u8],
-    cells: &mut [i16],
-) -> Dithered {
-    let settings = settings_of(reducing, room);
-    let reduction = part(room, 0);
-    let scale = part(room, 1);
-    let pixels = part(room, 14);
-    let opaque = part(room, 15);
-    dither::dither_to_mode(
-        settings, reduction, scale, pixels, opaque, places, oklab, out, cells,
-    )
 }
 
 // Whether the number, the count and the tile are the recorded ones. Only 8 has a tile, and no other refusal a count.
-fn is_answer(room: &[u8], answer: Dithered) -> bool {
+fn is_answer(room: &Room, answer: Result<u32, DitherError>) -> bool {
     match answer {
-        Dithered::Count(count) => {
-            is_byte(room, 20, 0) & (is_word(room, 21, count) & is_empty(room, 22))
+        Ok(count) => room.is_byte(20, 0) && room.is_word(21, count) && room.is_empty(22),
+        Err(DitherError::TileOver { tile, count }) => {
+            room.is_byte(20, 8) && room.is_word(21, count) && room.is_word(22, tile)
         }
-        Dithered::Over { tile, count } => {
-            is_byte(room, 20, 8) & (is_word(room, 21, count) & is_word(room, 22, tile))
+        Err(DitherError::Refused(refusal)) => {
+            room.is_byte(20, refusal.number()) && room.is_empty(21) && room.is_empty(22)
         }
-        Dithered::Refused(n) => is_byte(room, 20, n) & (is_empty(room, 21) & is_empty(room, 22)),
     }
-}
-
-// Whether the buffers are the recorded ones.
-fn are_left(room: &[u8], places: &[u8], oklab: &[f32], out: &[u8], cells: &[i16]) -> bool {
-    ((part(room, 23) == places) & are_floats(room, 24, oklab))
-        & ((part(room, 25) == out) & are_cells(room, 26, cells))
-}
-
-fn dithered(
-    reducing: Reducing,
-    room: &[u8],
-    places: &mut [u8],
-    oklab: &mut [f32],
-    out: &mut [u8],
-    cells: &mut [i16],
-) -> bool {
-    if !lend(room, places, oklab, out, cells) {
-        return false;
-    }
-    let answer = call(reducing, room, places, oklab, out, cells);
-    is_answer(room, answer) & are_left(room, places, oklab, out, cells)
-}
-
-fn is_shaped(room: &[u8]) -> bool {
-    shaped(
-        room,
-        &[
-            ANY, ANY, 4, 4, 4, 4, 4, 4, 4, 4, 4, 4, 1, 4, ANY, ANY, ANY, ANY, ANY, ANY, 1, ANY,
-            ANY, ANY, ANY, ANY, ANY,
-        ],
-    )
 }
 
 // x: reduction scale shift reducing kind width height origin_x origin_y tile_width tile_height limit has_zero zero pixels
 // opaque places oklab out cells | number count tile places oklab out cells
-pub fn dither_to_mode(reducing: Reducing, room: &[u8]) -> bool {
-    if !is_shaped(room) {
+pub fn dither_to_mode(reducing: Reducing, room: &Room) -> bool {
+    if !room.shaped(&[
+        ANY, ANY, WORD, WORD, WORD, WORD, WORD, WORD, WORD, WORD, WORD, WORD, BYTE, WORD, ANY, ANY,
+        ANY, ANY, ANY, ANY, BYTE, ANY, ANY, ANY, ANY, ANY, ANY,
+    ]) {
         return false;
     }
-    let mut places = [0u8; 1280];
-    let mut oklab = [0.0f32; 960];
-    let mut out = [0u8; 1280];
-    let mut cells = [0i16; 960];
-    let n = up_to(part(room, 16).len(), 1280);
-    let m = up_to(part(room, 17).len() / 4, 960);
-    let k = up_to(part(room, 18).len(), 1280);
-    let l = up_to(part(room, 19).len() / 2, 960);
-    dithered(
-        reducing,
-        room,
-        &mut places[0..n],
-        &mut oklab[0..m],
-        &mut out[0..k],
-        &mut cells[0..l],
-    )
+    let mut places = [0; 1280];
+    let places = &mut places[..room.part(16).len().min(1280)];
+    let mut oklab = [0.0; 960];
+    let oklab = &mut oklab[..(room.part(17).len() / 4).min(960)];
+    let mut out = [0; 1280];
+    let out = &mut out[..room.part(18).len().min(1280)];
+    let mut cells = [0; 960];
+    let cells = &mut cells[..(room.part(19).len() / 2).min(960)];
+    if !(room.bytes_into(16, places)
+        && room.floats(17, oklab)
+        && room.bytes_into(18, out)
+        && room.cells(19, cells))
+    {
+        return false;
+    }
+    let answer = dither::dither_to_mode(
+        settings_of(reducing, room),
+        room.part(0),
+        room.part(1),
+        room.part(14),
+        room.part(15),
+        places,
+        oklab,
+        out,
+        cells,
+    );
+    is_answer(room, answer)
+        && room.part(23) == places
+        && room.are_floats(24, oklab)
+        && room.part(25) == out
+        && room.are_cells(26, cells)
 }

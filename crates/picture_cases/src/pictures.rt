@@ -1,83 +1,49 @@
 // `quantize_pixels`: a case lends the recorded indices, pixels and cells, cut to their length, and compares them afterwards.
-use quantize::Quantization;
-use recorded::{ANY, are_cells, bytes_into, is_byte, part, shaped, up_to, word};
+use recorded::{ANY, BYTE, Room, WORD};
 use reducing::Reducing;
+use replies::Refusal;
 
-// The recorded contents, before the call.
-fn lend(room: &[u8], indices: &mut [u8], out: &mut [u8], cells: &mut [i16]) -> bool {
-    bytes_into(room, 10, indices) & (bytes_into(room, 11, out) & recorded::cells(room, 12, cells))
-}
-
-fn number_of(reply: Quantization) -> u8 {
-    match reply {
-        Quantization::Accepted => 0,
-        Quantization::Refused(number) => number,
+// Whether the number is the recorded one.
+fn is_answer(room: &Room, answer: Result<(), Refusal>) -> bool {
+    match answer {
+        Ok(()) => room.is_byte(13, 0),
+        Err(refusal) => room.is_byte(13, refusal.number()),
     }
-}
-
-fn call(
-    reducing: Reducing,
-    room: &[u8],
-    indices: &mut [u8],
-    out: &mut [u8],
-    cells: &mut [i16],
-) -> u8 {
-    let shift = word(room, 2);
-    let kind = word(room, 4);
-    let width = word(room, 5);
-    let height = word(room, 6);
-    let reduction = part(room, 0);
-    let scale = part(room, 1);
-    let palette = part(room, 7);
-    let pixels = part(room, 8);
-    let opaque = part(room, 9);
-    number_of(quantize::quantize_pixels(
-        shift, reducing, kind, width, height, reduction, scale, palette, pixels, opaque, indices,
-        out, cells,
-    ))
-}
-
-// Whether the answer and the buffers are the recorded ones.
-fn are_recorded(room: &[u8], number: u8, indices: &[u8], out: &[u8], cells: &[i16]) -> bool {
-    is_byte(room, 13, number)
-        & ((part(room, 14) == indices) & ((part(room, 15) == out) & are_cells(room, 16, cells)))
-}
-
-fn quantized(
-    reducing: Reducing,
-    room: &[u8],
-    indices: &mut [u8],
-    out: &mut [u8],
-    cells: &mut [i16],
-) -> bool {
-    if !lend(room, indices, out, cells) {
-        return false;
-    }
-    let number = call(reducing, room, indices, out, cells);
-    are_recorded(room, number, indices, out, cells)
 }
 
 // q: reduction scale shift reducing kind width height palette pixels opaque indices out cells | number indices out cells
-pub fn quantize_pixels(reducing: Reducing, room: &[u8]) -> bool {
-    if !shaped(
-        room,
-        &[
-            ANY, ANY, 4, 4, 4, 4, 4, ANY, ANY, ANY, ANY, ANY, ANY, 1, ANY, ANY, ANY,
-        ],
-    ) {
+pub fn quantize_pixels(reducing: Reducing, room: &Room) -> bool {
+    if !room.shaped(&[
+        ANY, ANY, WORD, WORD, WORD, WORD, WORD, ANY, ANY, ANY, ANY, ANY, ANY, BYTE, ANY, ANY, ANY,
+    ]) {
         return false;
     }
-    let mut indices = [0u8; 320];
-    let mut out = [0u8; 1280];
-    let mut cells = [0i16; 960];
-    let n = up_to(part(room, 10).len(), 320);
-    let m = up_to(part(room, 11).len(), 1280);
-    let k = up_to(part(room, 12).len() / 2, 960);
-    quantized(
+    let mut indices = [0; 320];
+    let indices = &mut indices[..room.part(10).len().min(320)];
+    let mut out = [0; 1280];
+    let out = &mut out[..room.part(11).len().min(1280)];
+    let mut cells = [0; 960];
+    let cells = &mut cells[..(room.part(12).len() / 2).min(960)];
+    if !(room.bytes_into(10, indices) && room.bytes_into(11, out) && room.cells(12, cells)) {
+        return false;
+    }
+    let answer = quantize::quantize_pixels(
+        room.word(2),
         reducing,
-        room,
-        &mut indices[0..n],
-        &mut out[0..m],
-        &mut cells[0..k],
-    )
+        room.word(4),
+        room.word(5),
+        room.word(6),
+        room.part(0),
+        room.part(1),
+        room.part(7),
+        room.part(8),
+        room.part(9),
+        indices,
+        out,
+        cells,
+    );
+    is_answer(room, answer)
+        && room.part(14) == indices
+        && room.part(15) == out
+        && room.are_cells(16, cells)
 }

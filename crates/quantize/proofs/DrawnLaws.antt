@@ -1,4 +1,4 @@
--- The picture that is drawn over the palette: what fits is ready to be drawn (`ready`), the choice of a pixel that is seen is an entry (`chosen_among`), twins
+-- The picture that is drawn over the palette: the choice of a pixel that is seen is an entry (`chosen_among`), twins
 -- of the palette are alike (`palette_alike`), and the positions of the choices are the picture's indices (`positions_are`). Assumes nothing.
 use mathlib.Core.Path.{◌≡◌, refl, sym, subst, ◌∙◌, ap}
 use mathlib.Core.Bool.{Bool, true, false, cond, not, ◌||◌}
@@ -18,16 +18,15 @@ use Rattle.conversion.specs.Oklab.{to_oklab}
 use Rattle.conversion.proofs.ListLaws.{list_at}
 use Rattle.picture.specs.Pixels.{is_seen}
 use Rattle.shortlist.specs.Candidates.{RangedList}
-use Rattle.drawing.specs.declared.ColorZero.TheVariants.{Absent}
 use Rattle.drawing.specs.Drawing.{Among, drawn}
 use Rattle.lookup.specs.Positions.{Alike, first_equal}
-use Rattle.drawing.specs.Lent.{is_skipped, Ready, reduced_bytes}
+use Rattle.drawing.specs.Lent.{is_skipped, reduced_bytes}
 use Rattle.drawing.specs.Positions.{position_of, position_bytes}
 use Rattle.drawing.specs.Finished.{Finishable}
 use Rattle.drawing.proofs.CandidateLaws.{drawn_candidate}
 use Rattle.drawing.proofs.OutputLaws.{bytes_length}
 use Rattle.drawing.proofs.FinishedLaws.{seen_drawn}
-use Rattle.quantize.specs.Quantize.{Commission, entries, size, palette_oklab, ditherer_of, lent_of, quantizing, index_of, index_for, index_bytes, indices_of}
+use Rattle.quantize.specs.Quantize.{Commission, entries, size, palette_oklab, quantizing, index_of, index_for, index_bytes, indices_of}
 use Rattle.quantize.specs.Quantize.{lengths_of}
 use Rattle.quantize.specs.Steps.{Fitting}
 
@@ -56,29 +55,12 @@ module _ (q : Commission) where
       go true k = refl
       go false k = refl
 
-module _ (q : Commission) (indices out : List ℕ) (cells : List ℤ) (f : Fitting q (lengths_of q indices out cells))
-    (ranged : RangedList (palette_oklab q) (entries q))
+module _ (q : Commission) (indices out : List ℕ) (cells : List ℤ) (f : Fitting q (lengths_of q indices out cells)) (chosen : List ℕ)
+    (e : chosen ≡ reduced_bytes (quantizing q))
   where
-    pub ready : (width : ℕ) (oklab : List Float) → oklab ≡ palette_oklab q → Ready (ditherer_of q width) Absent (lent_of q oklab)
-    ready width oklab e = record {
-      wide = f.wide;
-      high = f.high;
-      few = f.small;
-      across = omega (arith, f.wide);
-      down = omega (arith, f.high);
-      reduction = f.reduction;
-      scale = f.scale;
-      pixels = f.pixels;
-      opaque = f.opaque;
-      colors = omega arith;
-      ranged = subst (λ (o : List Float). RangedList o (entries q)) (sym e) ranged;
-      some = λ i h s. f.some;
-    }
-
     -- the drawn bytes
-    module _ (chosen : List ℕ) (e : chosen ≡ reduced_bytes (quantizing q)) where
-      long : length chosen ≡ 4 * size q
-      long = ap length e ∙ bytes_length (quantizing q)
+    long : length chosen ≡ 4 * size q
+    long = ap length e ∙ bytes_length (quantizing q)
 
-      pub finishable : Finishable q.scale q.pixels (size q) chosen
-      finishable = record { scales = f.scale; source = f.pixels; long = long }
+    pub finishable : Finishable q.pixels (size q) chosen
+    finishable = record { source = f.pixels; long = long }

@@ -1,8 +1,9 @@
--- What the number says: it is the first that applies (`number_is`); the answer with a number has it (`own_number`); where none applies, all lengths fit
+-- What the number says: it is the first that applies (`number_is`); where none applies, all lengths fit
 -- (`accepted`). Assumes nothing.
-use mathlib.Core.Path.{◌≡◌, refl, ◌∙◌}
+use mathlib.Core.Path.{◌≡◌, ◌∙◌}
 use mathlib.Core.Bool.{false, not}
-use mathlib.Core.List.{List, []}
+use mathlib.Core.List.{List}
+use Rattle.std.specs.Prelude.{Result}
 use Prim.Native.Nat.{ℕ, ◌*◌, ◌/◌, ◌%◌, ◌<◌}
 use native.Mathlib.Omega.{arith}
 use borrow.Author.Tests.{ltb-false, eqb-false, not-false}
@@ -11,24 +12,20 @@ use lib.IntN.{ℤ}
 use Rattle.lists.proofs.Bools.{or_split, equals}
 use Rattle.replies.specs.Replies.{FirstReply, first_reply}
 use Rattle.replies.proofs.ReplyLaws.{reply_none}
-use Rattle.replies.proofs.AnswerLaws.{answers_first, value_number}
+use Rattle.replies.proofs.AnswerLaws.{answers_first}
+use Rattle.replies.specs.Refusals.{number_of}
+use Rattle.replies.specs.declared.Refusal.{Refusal}
 use Rattle.picture.specs.Bounds.{lent_wrong}
 use Rattle.picture.proofs.BoundLaws.{sized, lent_so}
 use Rattle.patterns.specs.Kinds.{is_kind, cells_needed}
 use Rattle.mixing.proofs.Widths.{pairing_shift}
-use Rattle.quantize.specs.declared.Quantization.{Quantization}
-use Rattle.quantize.specs.declared.Quantization.TheVariants.{Accepted, Refused}
 use Rattle.quantize.specs.declared.Lengths.{Lengths}
-use Rattle.quantize.specs.Quantize.{Commission, size, lengths_wrong, entries_wrong, checks, replies, number_of, answer_of, Quantized}
+use Rattle.quantize.specs.Quantize.{Commission, size, lengths_wrong, entries_wrong, checks, replies, Quantized}
 use Rattle.quantize.specs.Steps.{Fitting}
 
-pub number_is : {q : Commission} {indices₀ out₀ : List ℕ} {cells₀ : List ℤ} {r : Quantization} {indices out : List ℕ} {cells : List ℤ}
+pub number_is : {q : Commission} {indices₀ out₀ : List ℕ} {cells₀ : List ℤ} {r : Result Unit Refusal} {indices out : List ℕ} {cells : List ℤ}
     → Quantized q indices₀ out₀ cells₀ r indices out cells → FirstReply (replies q indices₀ out₀ cells₀) (number_of r)
 number_is p = answers_first _ _ _ tt p.answer
-
--- the answer with a number has it
-pub own_number : (n : ℕ) → number_of (answer_of n) ≡ n
-own_number = value_number number_of [] Accepted Refused refl (λ n. refl)
 
 -- what is not 0 is more
 some_more : (n : ℕ) → eqb n 0 ≡ false → 0 < n

@@ -8,6 +8,7 @@ use native.Mathlib.Nat.{one-mul, add-zero}
 use lib.Dec.{lit<}
 use lib.ListN.{get_or}
 use lib.IntN.{ℤ}
+use Rattle.std.specs.Prelude.{Result, Ok}
 use Rattle.replies.specs.Replies.{after}
 use Rattle.lists.proofs.GatherLaws.{gather_at}
 use Rattle.color.specs.Color.{normalized_at, reduced_at, transparent_normalized}
@@ -17,21 +18,21 @@ use Rattle.drawing.specs.Drawing.{drawn}
 use Rattle.drawing.specs.Finished.{finished_pixel}
 use Rattle.drawing.proofs.CandidateLaws.{list_fit}
 use Rattle.drawing.proofs.FinishedLaws as finished
-use Rattle.quantize.specs.declared.Quantization.{Quantization}
-use Rattle.quantize.specs.declared.Quantization.TheVariants.{Accepted}
+use Rattle.replies.specs.Refusals.{number_of}
+use Rattle.replies.specs.declared.Refusal.{Refusal}
 use Rattle.quantize.specs.Quantize.{Commission, entries, size, quantizing, IndexOf, index_for, index_at, index_bytes, indices_of, pixels_of}
-use Rattle.quantize.specs.Quantize.{number_of, Quantized}
+use Rattle.quantize.specs.Quantize.{Quantized}
 use Rattle.quantize.proofs.IndexLaws.{index_is}
 use Rattle.quantize.proofs.DrawnLaws.{chosen_among}
 
 -- ---- what stands at pixel i
-module _ {q : Commission} {indices₀ out₀ : List ℕ} {cells₀ : List ℤ} {r : Quantization} {indices out : List ℕ} {cells : List ℤ}
-    (p : Quantized q indices₀ out₀ cells₀ r indices out cells) (accepted : r ≡ Accepted) (i : ℕ) (h : i < size q) where
+module _ {q : Commission} {indices₀ out₀ : List ℕ} {cells₀ : List ℤ} {r : Result Unit Refusal} {indices out : List ℕ} {cells : List ℤ}
+    (p : Quantized q indices₀ out₀ cells₀ r indices out cells) (accepted : r ≡ Ok tt) (i : ℕ) (h : i < size q) where
   index_list : indices ≡ indices_of q
-  index_list = p.index_buffer ∙ ap (λ (x : Quantization). after (number_of x) (indices_of q) indices₀) accepted
+  index_list = p.index_buffer ∙ ap (λ (x : Result Unit Refusal). after (number_of x) (indices_of q) indices₀) accepted
 
   color_list : out ≡ pixels_of q
-  color_list = p.picture ∙ ap (λ (x : Quantization). after (number_of x) (pixels_of q) out₀) accepted
+  color_list = p.picture ∙ ap (λ (x : Result Unit Refusal). after (number_of x) (pixels_of q) out₀) accepted
 
   pub index_byte : get_or indices i 0 ≡ index_at q i
   unfolding index_bytes

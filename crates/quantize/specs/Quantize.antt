@@ -3,11 +3,12 @@
 -- index 0 and `TRANSPARENT`", "max is the palette's length in `quantize_pixels`", "`quantize_pixels` uses origin 0") and "Bounds and replies"; and
 -- from document 02, Ask 9: "15 for kinds 5 and 6 in every call that takes a kind, directly after 1"; Ask 11: "signed 16-bit counts of sixteenths, three
 -- a pixel", "3 measures the new length"; Ask 5: "Each call names its reduction", "1 for any other pairing", "3 covers the new buffer".
-use Rattle.std.specs.Prelude.{ℕ, ◌*◌, ◌/◌, ◌%◌, ◌<◌, ◌≡◌, Bool, cond, not, ◌||◌, List, [], ◌∷◌, eqb, ltb, ℤ, length, Float}
+use Rattle.std.specs.Prelude.{ℕ, ◌*◌, ◌/◌, ◌%◌, ◌<◌, ◌≡◌, Bool, cond, not, ◌||◌, List, [], ◌∷◌, eqb, ltb, ℤ, length, Float, Result, Option, None}
 use Rattle.lists.specs.Gather.{gather}
 use Rattle.lists.specs.First.{first_that}
 use Rattle.replies.specs.Replies.{Reply, ◌if◌, after}
-use Rattle.replies.specs.Answers.{Answers, value_or}
+use Rattle.replies.specs.Refusals.{number_of, Answered}
+use Rattle.replies.specs.declared.Refusal.{Refusal}
 use Rattle.color.specs.declared.ReducedColor.{ReducedColor}
 use Rattle.color.specs.Color.{reduced_at, same_reduced}
 use Rattle.reducing.specs.declared.Reducing.{Reducing}
@@ -18,12 +19,9 @@ use Rattle.conversion.specs.Lists.{list_oklab}
 use Rattle.patterns.specs.Kinds.{is_kind, is_retired, cells_needed}
 use Rattle.mixing.specs.Widths.{width_of}
 use Rattle.drawing.specs.declared.Ditherer.{Ditherer}
-use Rattle.drawing.specs.declared.ColorZero.TheVariants.{Absent}
 use Rattle.drawing.specs.Drawing.{Drawing, drawn}
 use Rattle.drawing.specs.Lent.{Lent, lent, drawing_of, cells_after}
 use Rattle.drawing.specs.Finished.{finished_picture}
-use Rattle.quantize.specs.declared.Quantization.{Quantization}
-use Rattle.quantize.specs.declared.Quantization.TheVariants.{Accepted, Refused}
 use Rattle.quantize.specs.declared.Lengths.{Lengths}
 
 -- what the caller asks for, and lends to be read
@@ -54,6 +52,10 @@ commission shift reducing kind width height reduction scale palette pixels opaqu
   opaque = opaque;
 }
 
+-- the same of what is lent to the drawing, whose candidates are the palette
+abbrev pub commission_by : (shift kind width height : ℕ) → Lent → Commission
+commission_by shift kind width height l = commission shift l.reducing kind width height l.reduction l.scale l.colors l.pixels l.opaque
+
 -- how many entries the palette has, four bytes each, and how many pixels the picture
 abbrev pub entries : Commission → ℕ
 entries q = length q.palette / 4
@@ -77,7 +79,7 @@ lent_of q oklab = lent q.reducing q.reduction q.scale q.pixels q.opaque q.palett
 
 -- the picture that is drawn: no colour zero, and "max is the palette's length"
 abbrev pub quantizing : Commission → Drawing
-quantizing q = drawing_of (ditherer_of q (width_of q.shift (entries q))) Absent (lent_of q (palette_oklab q))
+quantizing q = drawing_of (ditherer_of q (width_of q.shift (entries q))) None (lent_of q (palette_oklab q))
 
 -- the first of n palette entries equal to a colour; n where none is
 unfoldable pub index_of : List ℕ → ℕ → ReducedColor → ℕ
@@ -147,19 +149,10 @@ replies q indices out cells = checks q.shift q.reducing q.kind q.width q.height 
 
 -- ---- the promise
 
--- document 01's number of an answer
-abbrev pub number_of : Quantization → ℕ
-number_of Accepted = 0
-number_of (Refused n) = n
-
--- what is answered with a number
-abbrev pub answer_of : ℕ → Quantization
-answer_of = value_or Accepted Refused
-
 -- what `quantize_pixels` answers and leaves: r, and the three buffers after its number, which held `indices₀`, `out₀` and `cells₀`
-pub record Quantized (q : Commission) (indices₀ out₀ : List ℕ) (cells₀ : List ℤ) (r : Quantization) (indices out : List ℕ) (cells : List ℤ)
+pub record Quantized (q : Commission) (indices₀ out₀ : List ℕ) (cells₀ : List ℤ) (r : Result Unit Refusal) (indices out : List ℕ) (cells : List ℤ)
     : Type 0 where
-  pub answer : Answers number_of (replies q indices₀ out₀ cells₀) answer_of r
+  pub answer : Answered (replies q indices₀ out₀ cells₀) tt r
   pub index_buffer : indices ≡ after (number_of r) (indices_of q) indices₀
   pub picture : out ≡ after (number_of r) (pixels_of q) out₀
   pub cell_buffer : cells ≡ after (number_of r) (cells_after (quantizing q) cells₀) cells₀

@@ -5,23 +5,30 @@
 
 ghost use Rattle.std.specs.Prelude.{◌≡◌, ◌≤◌, length};
 ghost use Rattle.replies.specs.Replies.{first_reply};
-ghost use Rattle.drawing.specs.Lent.{cells_after};
-ghost use Rattle.quantize.specs.Quantize.{commission, quantizing, indices_of, pixels_of};
-ghost use Rattle.quantize.specs.Quantize.{lengths_of, lengths_wrong, entries_wrong, checks, answer_of, Quantized};
+ghost use Rattle.replies.specs.Refusals.{number_of};
+ghost use Rattle.drawing.specs.Lent.{lent_by, cells_after};
+ghost use Rattle.quantize.specs.Quantize.{commission, commission_by, lent_of, palette_oklab, quantizing, indices_of, pixels_of};
+ghost use Rattle.quantize.specs.Quantize.{lengths_of, lengths_wrong, entries_wrong, checks, Quantized};
 ghost use Rattle.quantize.specs.Steps.{Fitting};
 
-use drawing::{ColorZero, Ditherer};
+use conversion::linear::linear_table;
+use drawing::{Ditherer, Lent};
 use reducing::Reducing;
+use replies::Refusal;
 
-// What `quantize_pixels` answers.
-#[derive(Clone, Copy)]
-pub enum Quantization {
-    Accepted,
-    Refused(u8),
+// What is asked of a picture: the mode's shift and how it reduces, the kind of dithering and the picture's size. The call takes
+// them one by one, as the original does.
+#[derive(Clone, Copy, Debug, PartialEq, Eq, Hash)]
+struct Asked {
+    shift: u32,
+    reducing: Reducing,
+    kind: u32,
+    width: u32,
+    height: u32,
 }
 
 // How long each lent buffer is.
-#[derive(Clone, Copy)]
+#[derive(Clone, Copy, Debug, PartialEq, Eq, Hash)]
 pub struct Lengths {
     pub reduction: usize,
     pub scale: usize,
@@ -53,96 +60,59 @@ fn entries_wrong(count: usize) -> bool
     (count == 0) | (256 < count)
 }
 
-// The number of the answer: 0 where the picture is accepted, else the first that applies.
-fn refusal(shift: u32, reducing: Reducing, kind: u32, width: u32, height: u32, s: Lengths) -> u8
-    ensures { result ≡ first_reply (checks shift reducing kind width height s) }
+// The first refusal that applies, if one does.
+// Kept beside `check` of `dither`: the three tests that both begin with are of other bounds each, and 15 stands between them as
+// each call's list has it; one function of the three answers would take as many lines to call as they are.
+fn check(asked: Asked, s: Lengths) -> Result<(), Refusal>
+    ensures { number_of result ≡ first_reply (checks asked.shift asked.reducing asked.kind asked.width asked.height s) }
 {
-    let mode_wrong = !patterns::is_kind(kind) | !reducing::is_pairing(reducing, shift);
-    let retired = patterns::is_retired(kind);
-    let size_wrong = picture::size_wrong(width, height);
+    let reducing = asked.reducing;
+    let mode_wrong = !patterns::is_kind(asked.kind) | !reducing::is_pairing(reducing, asked.shift);
+    let retired = patterns::is_retired(asked.kind);
+    let size_wrong = picture::size_wrong(asked.width, asked.height);
     if mode_wrong {
-        return 1;
+        return Err(Refusal::KindOrShift);
     }
     if retired {
-        return 15;
+        return Err(Refusal::RetiredKind);
     }
     if size_wrong {
-        return 2;
+        return Err(Refusal::Size);
     }
-    let size = width as usize * height as usize;
-    if lengths_wrong(reducing, kind, size, s) {
-        return 3;
+    let size = asked.width as usize * asked.height as usize;
+    if lengths_wrong(reducing, asked.kind, size, s) {
+        return Err(Refusal::Length);
     }
     if entries_wrong(s.palette / 4) {
-        return 4;
+        return Err(Refusal::Entries);
     }
-    0
-}
-
-// The answer with a number.
-fn answer(number: u8) -> Quantization
-    ensures { result ≡ answer_of number }
-{
-    if number == 0 {
-        return Quantization::Accepted;
-    }
-    Quantization::Refused(number)
+    Ok(())
 }
 
 // ---- the call
 
-// Quantizes a picture that is accepted; the palette's Oklab takes the room that is lent. No public call: the caller sees
-// to all lengths.
-fn quantize(
-    shift: u32,
-    reducing: Reducing,
-    kind: u32,
-    width: u32,
-    height: u32,
-    reduction: &[u8],
-    scale: &[u8],
-    palette: &[u8],
-    pixels: &[u8],
-    opaque: &[u8],
-    room: &mut [f32],
-    indices: &mut [u8],
-    out: &mut [u8],
-    cells: &mut [i16],
-)
-    requires { let q = commission shift reducing kind width height reduction.now scale.now palette.now pixels.now opaque.now in
-        Fitting q (lengths_of q indices.old out.old cells.old) × (length room.old ≡ 768) }
-    ensures { let q = commission shift reducing kind width height reduction.now scale.now palette.now pixels.now opaque.now in
+// Quantizes a picture that is accepted, over what is lent with the palette as the candidates. No public call: the caller sees
+// to all of it.
+fn quantize(asked: Asked, lent: &Lent, indices: &mut [u8], out: &mut [u8], cells: &mut [i16])
+    requires { let q = commission_by asked.shift asked.kind asked.width asked.height (lent_by lent.now) in
+        Fitting q (lengths_of q indices.old out.old cells.old) × (lent_by lent.now ≡ lent_of q (palette_oklab q)) }
+    ensures { let q = commission_by asked.shift asked.kind asked.width asked.height (lent_by lent.now) in
         (indices.new ≡ indices_of q) × (out.new ≡ pixels_of q) × (cells.new ≡ cells_after (quantizing q) cells.old) }
 {
-    let size = width as usize * height as usize;
-    let count = palette.len() / 4;
-    let linear = conversion::linear::linear_table();
-    conversion::list::put_list_oklab(&linear, scale, palette, count, room);
+    let count = lent.candidates.oklabs.count;
     let ditherer = Ditherer {
-        kind,
+        kind: asked.kind,
         origin_x: 0,
         origin_y: 0,
-        width,
-        height,
-        bracket_width: mixing::width_of(shift, count as u64),
+        width: asked.width,
+        height: asked.height,
+        bracket_width: mixing::width_of(asked.shift, count as u64),
     };
-    let oklab = &room[..3 * count];
-    ditherer.draw(
-        ColorZero::Absent,
-        &linear,
-        reducing,
-        reduction,
-        scale,
-        pixels,
-        opaque,
-        palette,
-        oklab,
-        count,
-        indices,
-        out,
-        cells,
-    );
-    let least = reducing::least_alpha(reducing);
+    ditherer.draw(None, lent, indices, out, cells);
+    let size = asked.width as usize * asked.height as usize;
+    let least = reducing::least_alpha(lent.reducing);
+    let scale = lent.candidates.scale;
+    let pixels = lent.pixels;
     drawing::finish(least, scale, pixels, size, out);
 }
 
@@ -162,10 +132,17 @@ pub fn quantize_pixels(
     indices: &mut [u8],
     out: &mut [u8],
     cells: &mut [i16],
-) -> Quantization
+) -> Result<(), Refusal>
     ensures { Quantized (commission shift reducing kind width height reduction.now scale.now palette.now pixels.now opaque.now)
         indices.old out.old cells.old result indices.new out.new cells.new }
 {
+    let asked = Asked {
+        shift,
+        reducing,
+        kind,
+        width,
+        height,
+    };
     let lengths = Lengths {
         reduction: reduction.len(),
         scale: scale.len(),
@@ -176,14 +153,24 @@ pub fn quantize_pixels(
         out: out.len(),
         cells: cells.len(),
     };
-    let number = refusal(shift, reducing, kind, width, height, lengths);
-    if number != 0 {
-        return answer(number);
-    }
+    check(asked, lengths)?;
+    let reduction: &[u8; 256] = reduction.try_into().unwrap();
+    let scale: &[u8; 256] = scale.try_into().unwrap();
+    let linear = linear_table();
+    let count = palette.len() / 4;
     let mut room = [0.0f32; 768];
-    quantize(
-        shift, reducing, kind, width, height, reduction, scale, palette, pixels, opaque, &mut room,
-        indices, out, cells,
+    conversion::list::put_list_oklab(&linear, scale, palette, count, &mut room);
+    let lent = Lent::new(
+        reducing,
+        reduction,
+        scale,
+        pixels,
+        opaque,
+        &linear,
+        palette,
+        &room[..3 * count],
+        count,
     );
-    answer(number)
+    quantize(asked, &lent, indices, out, cells);
+    Ok(())
 }

@@ -4,14 +4,8 @@
 use Rattle.std.specs.Prelude.{ℕ, List}
 use Rattle.color.specs.declared.CandidateColor.{CandidateColor}
 use Rattle.color.specs.declared.NormalizedColor.{NormalizedColor}
-use Rattle.lookup.specs.declared.FoundBracket.{FoundBracket}
-use Rattle.records.specs.declared.FoundRecord.{FoundRecord}
-use Rattle.records.specs.declared.FoundRecords.{FoundRecords}
 use Rattle.records.specs.Answers.{NearestRecord, NearestTwoRecords, RecordsBracket}
 use Rattle.record_cases.specs.declared.Three.{Three}
-
-abbrev pub three_of : FoundRecord → FoundRecords → FoundBracket → Three
-three_of near two bracket = record { near = near; two = two; bracket = bracket }
 
 -- each is what its lookup promises on the list
 pub record Asked (list : List CandidateColor) (color : NormalizedColor) (width : ℕ) (r : Three) : Type 0 where

@@ -1,35 +1,22 @@
-// The recorded list as text: the tokens of a line, the numbers, floats, cells and colours that they hold, and comparisons
-// with them.
-// Nothing here trusts the list: what lies outside a slice is an empty part, or 0.
-//
-// The tokens of a line are read into a room: byte 62 says how many there are, or 255 where the line is malformed; the two
-// bytes at 2 * k say where token k ends; the bytes of the tokens lie one after the other from byte 64 on.
+// The recorded list as text: the tokens of a case, the numbers, floats, cells and colours that they hold, and comparisons
+// with them. Nothing here trusts the list: what lies outside a slice is an empty part, or 0.
 #![tactic(auto)]
 
-ghost use Rattle.std.specs.Prelude.{◌≡◌, ℕ, ◌<◌, ◌≤◌, ◌≢◌, length, slice_index};
+ghost use Rattle.std.specs.Prelude.{◌≡◌, ◌≢◌, ℕ, ◌<◌, ◌≤◌, IfOk, length, slice_index};
+ghost use Rattle.std.proofs.Common.{rules};
 
 use color::ReducedColor;
+use std::num::f32_from_bits_with_nan;
 
 // ---- bytes of a slice
 
 pub fn byte_at(bytes: &[u8], i: usize) -> u8 {
-    if i < bytes.len() { bytes[i] } else { 0 }
-}
-
-fn put(bytes: &mut [u8], i: usize, byte: u8) {
-    if i < bytes.len() {
-        bytes[i] = byte;
-    }
+    bytes.get(i).copied().unwrap_or(0)
 }
 
 // The bytes from `from` up to `to`; none where these are not there.
 pub fn piece(bytes: &[u8], from: usize, to: usize) -> &[u8] {
-    if from <= to {
-        if to <= bytes.len() {
-            return &bytes[from..to];
-        }
-    }
-    &bytes[..0]
+    bytes.get(from..to).unwrap_or(&[])
 }
 
 // The place of the first such byte from `from` on; the slice's end where there is none. No public call: the caller sees to
@@ -49,358 +36,296 @@ pub fn find(bytes: &[u8], from: usize, byte: u8) -> usize
     bytes.len()
 }
 
-// The place after a line from `at` up to `end`, past its newline. No public call: the caller sees to the places.
-pub fn past(at: usize, end: usize, len: usize) -> usize
-    requires { (at ≤ end) × (end ≤ len) × (at < len) }
-    ensures { (at < result) × (result ≤ len) }
-{
-    if end < len { end + 1 } else { end }
-}
-
-// ---- the tokens of a room
-
-fn count(room: &[u8]) -> usize {
-    byte_at(room, 62) as usize
-}
-
-// Where token k ends.
-fn end(room: &[u8], k: usize) -> usize {
-    if k < 31 {
-        byte_at(room, 2 * k) as usize * 256 + byte_at(room, 2 * k + 1) as usize
-    } else {
-        0
-    }
-}
-
-fn start(room: &[u8], k: usize) -> usize {
-    if k == 0 { 64 } else { end(room, k - 1) }
-}
-
-// Token k.
-pub fn part(room: &[u8], k: usize) -> &[u8] {
-    piece(room, start(room, k), end(room, k))
-}
-
-fn put_end(room: &mut [u8], k: usize, n: usize) {
-    if k < 31 {
-        put(room, 2 * k, (n / 256 % 256) as u8);
-        put(room, 2 * k + 1, (n % 256) as u8);
-    }
-}
-
-// How many tokens there are when token k ends at n; 255 where there is no place for it.
-fn counted(room: &[u8], k: usize, n: usize) -> u8 {
-    if k < 31 {
-        if n < room.len() {
-            return k as u8 + 1;
-        }
-    }
-    255
-}
-
 // ---- reading a line
 
-// The value of the hexadecimal digit at i, 16 where there is none.
-fn digit_at(text: &[u8], i: usize) -> u8 {
-    let c = byte_at(text, i);
-    if c < b'0' {
-        return 16;
-    }
-    if c <= b'9' {
-        return c - b'0';
-    }
-    if c < b'a' {
-        return 16;
-    }
-    if c <= b'f' { c - b'a' + 10 } else { 16 }
-}
+// A line that has another digit than 0 to 9 and a to f, or half a byte, or more than there is room for.
+#[derive(Clone, Copy, Debug, PartialEq, Eq)]
+pub struct Malformed;
 
-// Writes a byte at n. Answers where the next goes, past the room where a digit is none or there is no place.
-fn put_digits(room: &mut [u8], n: usize, high: u8, low: u8) -> usize {
-    if n < room.len() {
-        if (high < 16) & (low < 16) {
-            put(room, n, high % 16 * 16 + low % 16);
-            return n + 1;
-        }
-    }
-    room.len()
-}
-
-// Reads the digits of a token, which stand after a space, into the room from a place on. Answers where they end there.
-fn unhex(text: &[u8], room: &mut [u8], from: usize) -> usize {
-    let mut n = from;
-    let mut i = 1;
-    while i < text.len() {
-        n = put_digits(room, n, digit_at(text, i), digit_at(text, i + 1));
-        i += 2;
-    }
-    n
-}
-
-// The same, also where a dash stands for no digits.
-fn undashed(text: &[u8], room: &mut [u8], from: usize) -> usize {
-    if (text.len() == 2) & (byte_at(text, 1) == b'-') {
-        return from;
-    }
-    unhex(text, room, from)
-}
-
-// Reads a token behind those that the room has.
-fn token(text: &[u8], room: &mut [u8]) {
-    let k = count(room);
-    let n = undashed(text, room, start(room, k));
-    put_end(room, k, n);
-    put(room, 62, counted(room, k, n));
-}
-
-// No tokens.
-pub fn clear(room: &mut [u8]) {
-    put(room, 62, 0);
-}
-
-// Reads the tokens of a line, which stand after its letter.
-pub fn decode(line: &[u8], room: &mut [u8]) {
-    let mut at = 1;
-    while at < line.len() {
-        let end = find(line, at + 1, b' ');
-        token(&line[at..end], room);
-        at = end;
+// The value of a hexadecimal digit.
+fn digit(c: u8) -> Result<u8, Malformed> {
+    match c {
+        b'0'..=b'9' => Ok(c - b'0'),
+        b'a'..=b'f' => Ok(c - b'a' + 10),
+        _ => Err(Malformed),
     }
 }
 
-// ---- what a room has to have
-
-// Any width.
-pub const ANY: u8 = 255;
-
-fn has_width(room: &[u8], k: usize, width: u8) -> bool {
-    (width == ANY) | (part(room, k).len() == width as usize)
-}
-
-// Whether the tokens are as many as the widths, and as wide.
-pub fn shaped(room: &[u8], widths: &[u8]) -> bool {
-    if count(room) != widths.len() {
-        return false;
+// The byte of two digits.
+fn byte_of(digits: &[u8]) -> Result<u8, Malformed> {
+    match digits {
+        [high, low] => Ok(digit(*high)? << 4 | digit(*low)?),
+        _ => Err(Malformed),
     }
-    let mut k = 0;
-    while k < widths.len() {
-        if !has_width(room, k, widths[k]) {
-            return false;
-        }
-        k += 1;
-    }
-    true
 }
 
-// ---- numbers, most significant byte first
-
-fn with_byte(n: u64, byte: u8) -> u64 {
-    n % 0x0100_0000_0000_0000 * 256 + byte as u64
-}
-
-fn number_of(p: &[u8]) -> u64 {
-    let mut n = 0;
-    let mut i = 0;
-    while i < p.len() {
-        n = with_byte(n, p[i]);
-        i += 1;
-    }
-    n
-}
-
-fn word_of(p: &[u8]) -> u32 {
-    (number_of(p) % 0x1_0000_0000) as u32
-}
-
-pub fn number(room: &[u8], k: usize) -> u64 {
-    number_of(part(room, k))
-}
-
-pub fn word(room: &[u8], k: usize) -> u32 {
-    word_of(part(room, k))
-}
-
-fn writes_word(p: &[u8], n: u32) -> bool {
-    (p.len() == 4) & (word_of(p) == n)
-}
-
-// Whether token k is this number.
-pub fn is_byte(room: &[u8], k: usize, n: u8) -> bool {
-    (part(room, k).len() == 1) & (number(room, k) == n as u64)
-}
-
-pub fn is_position(room: &[u8], k: usize, n: usize) -> bool {
-    (part(room, k).len() == 4) & (number(room, k) == n as u64)
-}
-
-pub fn is_word(room: &[u8], k: usize, n: u32) -> bool {
-    writes_word(part(room, k), n)
-}
-
-pub fn is_long(room: &[u8], k: usize, n: u64) -> bool {
-    (part(room, k).len() == 8) & (number(room, k) == n)
-}
-
-// Whether token k has no bytes.
-pub fn is_empty(room: &[u8], k: usize) -> bool {
-    part(room, k).len() == 0
-}
-
-// Whether token k is this number, and the tokens after it are empty.
-pub fn is_refusal(room: &[u8], k: usize, n: u8) -> bool {
-    is_byte(room, k, n) & (end(room, k) == start(room, count(room)))
-}
-
-// ---- floats, by their bits
-
-// The float with these bits, 0 where they are a NaN's.
-fn float_of(bits: u32) -> f32 {
-    if bits % 0x8000_0000 <= 0x7f80_0000 {
-        return f32::from_bits(bits);
-    }
-    0.0
-}
-
-fn writes_float(p: &[u8], x: f32) -> bool {
-    if x == x {
-        return writes_word(p, f32::to_bits(x));
-    }
-    false
-}
-
-// The bytes of float i.
-fn float_piece(p: &[u8], i: usize) -> &[u8] {
-    if i < p.len() / 4 {
-        return piece(p, 4 * i, 4 * i + 4);
-    }
-    &p[..0]
-}
-
-// Float i.
-pub fn float_at(p: &[u8], i: usize) -> f32 {
-    float_of(word_of(float_piece(p, i)))
-}
-
-// As many as there are, but no more than a buffer has. A token that is longer is cut by this, and its case then differs.
-pub fn up_to(n: usize, most: usize) -> usize
-    ensures { result ≤ most }
+// Writes the bytes that the digits stand for. Answers how many.
+fn unhex(digits: &[u8], bytes: &mut [u8]) -> Result<usize, Malformed>
+    ensures { IfOk result (λ n. n ≤ length bytes.new) }
 {
-    if n <= most { n } else { most }
+    let pairs = digits.chunks(2);
+    let n = pairs.len();
+    if n > bytes.len() {
+        return Err(Malformed);
+    }
+    for (place, pair) in bytes.iter_mut().zip(pairs) {
+        *place = byte_of(pair)?;
+    }
+    Ok(n)
 }
 
-// Copies a part into a lent buffer; what the part lacks is 0.
-fn copy(out: &mut [u8], p: &[u8]) {
-    let mut i = 0;
-    while i < out.len() {
-        out[i] = byte_at(p, i);
-        i += 1;
-    }
+// ---- the tokens of a case
+
+// How wide a token has to be, in bytes: as wide as it is, or as one of these.
+pub const ANY: Option<usize> = None;
+
+pub const BYTE: Option<usize> = Some(1);
+
+pub const COLOR: Option<usize> = Some(3);
+
+pub const WORD: Option<usize> = Some(4);
+
+pub const LONG: Option<usize> = Some(8);
+
+// Room for the tokens of a case: their bytes lie one after the other, and `ends` says of each where it ends. Kept: with no
+// heap, how many there are stands beside the array.
+#[derive(Drop)]
+pub struct Room {
+    bytes: [u8; 32703],
+    ends: [usize; 31],
+    count: usize,
+    ghost counted: { count ≤ 31 },
 }
 
-fn fill(out: &mut [f32], p: &[u8]) {
-    let mut i = 0;
-    while i < out.len() {
-        out[i] = float_at(p, i);
-        i += 1;
+impl Room {
+    // No tokens.
+    pub fn new() -> Self
+        ensures { result.count ≡ 0 }
+    {
+        Room {
+            bytes: [0; 32703],
+            ends: [0; 31],
+            count: 0,
+        }
     }
-}
 
-fn writes_floats(p: &[u8], floats: &[f32]) -> bool {
-    if (p.len() % 4 != 0) | (p.len() / 4 != floats.len()) {
-        return false;
+    pub fn clear(&mut self)
+        ensures { self.new.count ≡ 0 }
+    {
+        self.count = 0;
     }
-    let mut i = 0;
-    while i < floats.len() {
-        if !writes_float(float_piece(p, i), floats[i]) {
+
+    // Where token k begins, if there is a token before.
+    fn start(&self, k: usize) -> usize {
+        if k == 0 {
+            0
+        } else {
+            self.ends.get(k - 1).copied().unwrap_or(0)
+        }
+    }
+
+    // Token k.
+    pub fn part(&self, k: usize) -> &[u8] {
+        if k < self.count {
+            return piece(&self.bytes, self.start(k), self.ends[k]);
+        }
+        &[]
+    }
+
+    // Reads a token behind those that there are. A dash stands for no digits.
+    fn token(&mut self, text: &[u8]) -> Result<(), Malformed> {
+        let k = self.count;
+        let from = self.start(k);
+        let digits = match text {
+            b"-" => &[],
+            _ => text,
+        };
+        let bytes = self.bytes.get_mut(from..).ok_or(Malformed)?;
+        let n = unhex(digits, bytes)?;
+        if k >= self.ends.len() {
+            return Err(Malformed);
+        }
+        self.ends[k] = from + n;
+        self.count = k + 1;
+        Ok(())
+    }
+
+    // Reads the tokens of a line, which stand after its letter and a space.
+    pub fn decode(&mut self, line: &[u8]) -> Result<(), Malformed> {
+        if let Some(tokens) = line.get(2..) {
+            for text in tokens.split(|c| *c == b' ') {
+                self.token(text)?;
+            }
+        }
+        Ok(())
+    }
+
+    // Whether the tokens are as many as the widths, and as wide.
+    pub fn shaped(&self, widths: &[Option<usize>]) -> bool {
+        self.count == widths.len()
+            && widths
+                .iter()
+                .enumerate()
+                .all(|(k, width)| width.is_none_or(|n| self.part(k).len() == n))
+    }
+
+    // ---- numbers, most significant byte first
+
+    // The number that token k is, without what is above 64 bits of it.
+    pub fn number(&self, k: usize) -> u64 {
+        self.part(k)
+            .iter()
+            .fold(0, |n, byte| n << 8 | u64::from(*byte))
+    }
+
+    // The same, of 32 bits.
+    pub fn word(&self, k: usize) -> u32 {
+        (self.number(k) & 0xffff_ffff) as u32
+    }
+
+    // Whether token k is this number.
+    pub fn is_byte(&self, k: usize, n: u8) -> bool {
+        self.part(k) == [n].as_slice()
+    }
+
+    pub fn is_word(&self, k: usize, n: u32) -> bool {
+        self.part(k) == n.to_be_bytes().as_slice()
+    }
+
+    pub fn is_position(&self, k: usize, n: usize) -> bool {
+        u32::try_from(n).is_ok_and(|n| self.is_word(k, n))
+    }
+
+    pub fn is_long(&self, k: usize, n: u64) -> bool {
+        self.part(k) == n.to_be_bytes().as_slice()
+    }
+
+    // Whether token k has no bytes.
+    pub fn is_empty(&self, k: usize) -> bool {
+        self.part(k).is_empty()
+    }
+
+    // Whether token k is this number, and the tokens after it are empty.
+    pub fn is_refusal(&self, k: usize, n: u8) -> bool {
+        self.is_byte(k, n) && (k..self.count).skip(1).all(|j| self.is_empty(j))
+    }
+
+    // ---- floats, by their bits, and cells: signed numbers of two bytes each, in two's complement
+
+    // Whether token k is this float.
+    pub fn is_float(&self, k: usize, x: f32) -> bool {
+        self.are_floats(k, &[x])
+    }
+
+    // Whether token k is just these floats.
+    pub fn are_floats(&self, k: usize, floats: &[f32]) -> bool {
+        are(self.part(k), floats)
+    }
+
+    // Whether token k is just these cells.
+    pub fn are_cells(&self, k: usize, cells: &[i16]) -> bool {
+        are(self.part(k), cells)
+    }
+
+    // Reads the bytes of token k. Answers whether it has just so many.
+    pub fn bytes_into(&self, k: usize, out: &mut [u8]) -> bool {
+        let bytes = self.part(k);
+        if bytes.len() != out.len() {
             return false;
         }
-        i += 1;
+        out.copy_from_slice(bytes);
+        true
     }
-    true
-}
 
-// Whether token k is this float.
-pub fn is_float(room: &[u8], k: usize, x: f32) -> bool {
-    writes_float(part(room, k), x)
-}
-
-// Whether token k is just these floats.
-pub fn are_floats(room: &[u8], k: usize, floats: &[f32]) -> bool {
-    writes_floats(part(room, k), floats)
-}
-
-// Reads the bytes of token k. Answers whether it has just so many.
-pub fn bytes_into(room: &[u8], k: usize, out: &mut [u8]) -> bool {
-    copy(out, part(room, k));
-    part(room, k).len() == out.len()
-}
-
-// Reads the floats of token k. Answers whether it has just so many, and no NaN.
-pub fn floats(room: &[u8], k: usize, out: &mut [f32]) -> bool {
-    fill(out, part(room, k));
-    are_floats(room, k, out)
-}
-
-// ---- cells: signed numbers of two bytes each, in two's complement
-
-// The cell with these bits, which are all a cell's. The upper half are the numbers below 0: 65535 is -1, and `!n` is -1 - n.
-fn cell_of(bits: u16) -> i16 {
-    if bits < 32768 {
-        return bits as i16;
+    // Reads the floats of token k. Answers whether it has just so many, and no NaN.
+    pub fn floats(&self, k: usize, out: &mut [f32]) -> bool {
+        read_into(self.part(k), out);
+        self.are_floats(k, out)
     }
-    !((65535 - bits) as i16)
-}
 
-// Cell i.
-fn cell_at(p: &[u8], i: usize) -> i16 {
-    if i < p.len() / 2 {
-        return cell_of((number_of(piece(p, 2 * i, 2 * i + 2)) % 65536) as u16);
+    // Reads the cells of token k. Answers whether it has just so many.
+    pub fn cells(&self, k: usize, out: &mut [i16]) -> bool {
+        read_into(self.part(k), out);
+        self.are_cells(k, out)
     }
-    0
-}
 
-fn fill_cells(out: &mut [i16], p: &[u8]) {
-    let mut i = 0;
-    while i < out.len() {
-        out[i] = cell_at(p, i);
-        i += 1;
+    // ---- colours
+
+    // The reduced colour of token k.
+    pub fn reduced(&self, k: usize) -> ReducedColor {
+        let p = self.part(k);
+        ReducedColor::new(byte_at(p, 0), byte_at(p, 1), byte_at(p, 2), byte_at(p, 3))
     }
 }
 
-// Whether a part has just so many cells.
-fn has_cells(p: &[u8], n: usize) -> bool {
-    (p.len() % 2 == 0) & (p.len() / 2 == n)
+// ---- values that take several bytes each
+
+trait Value: Copy {
+    ghost WIDTH: { ℕ };
+
+    // How many bytes one takes.
+    const WIDTH: usize;
+
+    fn read(bytes: &[u8]) -> Self;
+
+    fn is_written(self, bytes: &[u8]) -> bool;
+
+    ghost takes_some: { 0 < WIDTH };
 }
 
-fn writes_cells(p: &[u8], cells: &[i16]) -> bool {
-    if !has_cells(p, cells.len()) {
-        return false;
+impl Value for f32 {
+    ghost WIDTH = { 4 };
+
+    const WIDTH: usize = 4;
+
+    // The float with these bits, 0 where they are a NaN's.
+    fn read(bytes: &[u8]) -> Self {
+        let x = f32_from_bits_with_nan(bytes.try_into().map_or(0, u32::from_be_bytes));
+        if x.is_nan() { 0.0 } else { x }
     }
-    let mut i = 0;
-    while i < cells.len() {
-        if cell_at(p, i) != cells[i] {
-            return false;
-        }
-        i += 1;
+
+    // No NaN is.
+    fn is_written(self, bytes: &[u8]) -> bool {
+        !self.is_nan() && bytes == self.to_bits().to_be_bytes().as_slice()
     }
-    true
+
+    ghost takes_some = { Prim.search rules };
 }
 
-// Whether token k is just these cells.
-pub fn are_cells(room: &[u8], k: usize, cells: &[i16]) -> bool {
-    writes_cells(part(room, k), cells)
+impl Value for i16 {
+    ghost WIDTH = { 2 };
+
+    const WIDTH: usize = 2;
+
+    fn read(bytes: &[u8]) -> Self {
+        bytes.try_into().map_or(0, i16::from_be_bytes)
+    }
+
+    fn is_written(self, bytes: &[u8]) -> bool {
+        bytes == self.to_be_bytes().as_slice()
+    }
+
+    ghost takes_some = { Prim.search rules };
 }
 
-// Reads the cells of token k. Answers whether it has just so many.
-pub fn cells(room: &[u8], k: usize, out: &mut [i16]) -> bool {
-    fill_cells(out, part(room, k));
-    has_cells(part(room, k), out.len())
+// Reads the values of a part into as many places.
+fn read_into<T: Value>(p: &[u8], places: &mut [T]) {
+    for (place, bytes) in places.iter_mut().zip(p.chunks_exact(T::WIDTH)) {
+        *place = T::read(bytes);
+    }
 }
 
-// ---- colours
+// Whether a part is just these values.
+fn are<T: Value>(p: &[u8], values: &[T]) -> bool {
+    let chunks = p.chunks_exact(T::WIDTH);
+    chunks.remainder().is_empty()
+        && chunks.len() == values.len()
+        && chunks
+            .zip(values)
+            .all(|(bytes, value)| value.is_written(bytes))
+}
 
-// The reduced colour of token k.
-pub fn reduced(room: &[u8], k: usize) -> ReducedColor {
-    let p = part(room, k);
-    ReducedColor::new(byte_at(p, 0), byte_at(p, 1), byte_at(p, 2), byte_at(p, 3))
+// Float i of a part.
+pub fn float_at(p: &[u8], i: usize) -> f32 {
+    p.chunks_exact(4).nth(i).map_or(0.0, f32::read)
 }

@@ -6,5 +6,4 @@ pub mod FlatLaws
 pub mod AgreeLaws
 pub mod AnswerLaws
 pub mod TakenLaws
-pub mod Measure
 pub mod Unique

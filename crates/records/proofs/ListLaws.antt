@@ -1,9 +1,8 @@
--- Lists of records: a list in range has every record in range; an accepted list has from 1 to 65,536 records, all in range; a list's number, by the tests
--- of its length and its range. Assumes nothing.
+-- Lists of records: a list in range has every record in range; an accepted list has from 1 to 65,536 records, all in range. Assumes nothing.
 use mathlib.Core.Path.{◌≡◌, sym, subst}
 use mathlib.Core.Logic.{inl, inr}
 use mathlib.Core.List.{List}
-use mathlib.Core.Bool.{Bool, true, false, not}
+use mathlib.Core.Bool.{Bool}
 use Prim.Native.Nat.{ℕ, zero, suc, ◌≤◌, ◌<◌}
 use native.Mathlib.Nat.{le_of_suc-le-suc, not-suc-le-zero, eq-or-lt_of_le}
 use native.Mathlib.Omega.{arith}
@@ -11,7 +10,10 @@ use borrow.Author.Tests.{not-false}
 use lib.Dec.{T}
 use lib.ListN.{length}
 use lib.Ieee.Fits.{and_l, and_r, and_i}
-use Rattle.lists.proofs.Bools.{holds}
+use Rattle.std.specs.Bool.{Decides}
+use Rattle.std.specs.Prelude.{EachIndex, IsTrue}
+use Rattle.std.proofs.lemmas.Bool.Decides.{same_from_decides}
+use Rattle.lists.proofs.Bools.{holds, is_true}
 use Rattle.replies.proofs.ReplyLaws.{reply_none}
 use Rattle.color.specs.declared.CandidateColor.{CandidateColor}
 use Rattle.color.specs.Oklab.{all_in_range}
@@ -31,6 +33,15 @@ pub all_ranged : (list : List CandidateColor) (n : ℕ) → ((k : ℕ) → k < n
 all_ranged list zero h = tt
 all_ranged list (suc n) h = and_i (ranged_to list n) (all_in_range (record_at list n).oklab) (all_ranged list n (λ k l. h k (omega arith))) (h n (omega arith))
 
+-- a test of each record is the test of the list
+pub ranged_is : (list : List CandidateColor) (b : Bool) → Decides b (EachIndex list (λ k. IsTrue (all_in_range (record_at list k).oklab)))
+    → b ≡ ranged_to list (length list)
+ranged_is list b h =
+    same_from_decides b (ranged_to list (length list)) h (
+      λ r k l. is_true (all_in_range (record_at list k).oklab) (ranged_all list (length list) (holds r) k l),
+      λ each. is_true (ranged_to list (length list)) (all_ranged list (length list) (λ k l. holds (each k l))),
+    )
+
 -- ---- accepted
 pub record Accepted (list : List CandidateColor) : Type 0 where
   pub positive : 0 < length list
@@ -45,17 +56,3 @@ accepted list e =
     let n = counted (length list) (not-false (count_fits (length list)) a.0) in
     let r : T (ranged_to list (length list)) = holds (not-false (ranged_to list (length list)) a.1.0) in
     record { positive = n.0; few = n.1; ranged = r; range = ranged_all list (length list) r }
-
--- ---- the number, by the two tests
-module _ (n : ℕ) (ranged : Bool) where
-  pub refused_count : {t : Bool} → t ≡ count_fits n → not t ≡ true → 4 ≡ number_by n ranged
-  unfolding number_by
-  refused_count c e = rw (sym c, e)
-
-  pub refused_range : {t : Bool} → t ≡ count_fits n → not t ≡ false → not ranged ≡ true → 6 ≡ number_by n ranged
-  unfolding number_by
-  refused_range c e f = rw (sym c, e, f)
-
-  pub refused_none : {t : Bool} → t ≡ count_fits n → not t ≡ false → not ranged ≡ false → 0 ≡ number_by n ranged
-  unfolding number_by
-  refused_none c e f = rw (sym c, e, f)

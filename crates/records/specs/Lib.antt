@@ -1,4 +1,3 @@
--- The definitions of `records`: lists of candidate records, what the lookups over them answer, and how they read a list.
+-- The definitions of `records`: lists of candidate records, and what the lookups over them answer.
 pub mod Lists
 pub mod Answers
-pub mod Reading

@@ -5,9 +5,11 @@ use Rattle.std.specs.Float.{nan}
 use Rattle.lists.specs.Gather.{gather}
 use Rattle.replies.specs.Replies.{◌if◌, Reply, first_reply}
 use Rattle.color.specs.declared.CandidateColor.{CandidateColor}
+use Rattle.color.specs.declared.Oklab.{Oklab}
 use Rattle.color.specs.Color.{transparent_reduced, transparent_normalized, bytes_of}
 use Rattle.color.specs.Oklab.{all_in_range, floats_of}
 use Rattle.shortlist.specs.Candidates.{Candidates}
+use Rattle.shortlist.specs.Nearest.{distances}
 use Rattle.lookup.specs.Lists.{count_fits}
 
 -- what stands at no position
@@ -21,6 +23,10 @@ record_at list k = get_or list k no_record
 abbrev pub candidates_of : List CandidateColor → Candidates
 candidates_of list =
     record { count = length list; reduced = λ k. (record_at list k).reduced; normalized = λ k. (record_at list k).normalized; oklab = λ k. (record_at list k).oklab }
+
+-- how far record k is from a colour
+abbrev pub far_of : List CandidateColor → Oklab → ℕ → Float
+far_of list o = distances o (candidates_of list).oklab
 
 -- ---- taken apart
 abbrev pub reduced_piece : List CandidateColor → ℕ → List ℕ

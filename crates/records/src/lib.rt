@@ -1,23 +1,17 @@
 // The lookups over the caller's list of candidate records: `nearest`, `nearest_two` and `ordered_bracket` of src/dither.rs, with
-// its names and orders of parameters. `found_in` reads the list, one record at a time, by its position. Which record is wanted
-// next is in `search`, what is made of it in `firsts` and `others`, and what is answered in `answers`.
+// its names and orders of parameters. A list that is accepted is a `Records` (module list), which finds positions; here the
+// records at them are answered.
 #![tactic(auto)]
 
-mod answers;
-mod firsts;
-mod others;
-mod search;
-mod turns;
+mod list;
 
 ghost use Rattle.records.specs.Answers.{NearestRecord, NearestTwoRecords, RecordsBracket};
-ghost use Rattle.records.specs.Reading.{Asks, Found};
 
-use answers::{bracket_of, chosen, two_of};
 use color::{CandidateColor, NormalizedColor};
-use lookup::FoundBracket;
-use others::keep;
-use search::{Asked, Both, ask, begin, found, nothing, wanted};
-use turns::turn;
+use conversion::to_oklab;
+use list::Records;
+use lookup::Bracket;
+use replies::Refusal;
 
 // A record that is taken: its copy, and its position in the list.
 #[derive(Clone, Copy)]
@@ -26,60 +20,36 @@ pub struct Taken {
     pub position: usize,
 }
 
-// What `nearest` answers.
-#[derive(Clone, Copy)]
-pub enum FoundRecord {
-    Chosen(Taken),
-    Refused(u8),
-}
-
-// What `nearest_two` answers.
-#[derive(Clone, Copy)]
-pub enum FoundRecords {
-    Two(Taken, Taken),
-    One(Taken),
-    Refused(u8),
-}
-
-// Reads the records that a search wants, one by one, until it wants none. No public call: the caller sees to what is asked.
-fn found_in(list: &[CandidateColor], asked: Asked) -> Both
-    requires { Asks list.now asked }
-    ensures { Found list.now asked result }
-{
-    let mut at = begin(asked);
-    let mut kept = nothing();
-    let mut k = wanted(at);
-    while k < list.len() {
-        let c = list[k];
-        kept = keep(kept, at, c);
-        at = turn(at, kept, c);
-        k = wanted(at);
-    }
-    found(at)
-}
-
 // ---- the lookups: 4 where there is no record or more than 65,536, 6 where a component of one is not from -2 to 2
 
 // The nearest record, the first of equals, with its position.
-pub fn nearest(list: &[CandidateColor], color: NormalizedColor) -> FoundRecord
+pub fn nearest(list: &[CandidateColor], color: NormalizedColor) -> Result<Taken, Refusal>
     ensures { NearestRecord list.now color result }
 {
-    let len = list.len();
-    chosen(found_in(list, ask(color, len, 1, false)))
+    let records = Records::new(list)?;
+    Ok(records.taken(records.nearest(to_oklab(color))))
 }
 
-// The nearest record and the second, each with its position.
-pub fn nearest_two(color: NormalizedColor, list: &[CandidateColor], width: u64) -> FoundRecords
+// The nearest record and the second, if there is one, each with its position.
+pub fn nearest_two(
+    color: NormalizedColor,
+    list: &[CandidateColor],
+    width: u64,
+) -> Result<(Taken, Option<Taken>), Refusal>
     ensures { NearestTwoRecords list.now color width result }
 {
-    let len = list.len();
-    two_of(found_in(list, ask(color, len, width, true)))
+    let records = Records::new(list)?;
+    Ok(records.both(records.two(width, to_oklab(color), color)))
 }
 
 // The two colours that an ordered dither alternates between, their records' positions, and the share of the lighter.
-pub fn ordered_bracket(color: NormalizedColor, list: &[CandidateColor], width: u64) -> FoundBracket
+pub fn ordered_bracket(
+    color: NormalizedColor,
+    list: &[CandidateColor],
+    width: u64,
+) -> Result<Bracket, Refusal>
     ensures { RecordsBracket list.now color width result }
 {
-    let len = list.len();
-    bracket_of(found_in(list, ask(color, len, width, true)))
+    let records = Records::new(list)?;
+    Ok(records.bracket(width, to_oklab(color), color))
 }

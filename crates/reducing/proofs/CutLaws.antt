@@ -4,13 +4,13 @@ use mathlib.Core.Path.{◌≡◌, sym, ap, ◌∙◌, subst}
 use Prim.Native.Nat.{ℕ, ◌-◌, ◌*◌, ◌/◌, ◌^◌, ◌≤◌, ◌<◌, min}
 use native.Mathlib.Nat.{le_trans, mul-one, mul_right_comm, mul-lt-mul_of_pos_right, lt_of_mul-lt-mul_right, div-lt_iff_lt-mul, div-le_of_le-mul, mul_comm, min-eq_left}
 use native.Mathlib.Omega.{arith}
-use mathlib.Core.Bool.{Bool, true, false, true≢false}
-use lib.IntN.{ℤ}
-use lib.Dec.{T, ltb, ltb→lt, lt→ltb, lit≤}
+use mathlib.Core.Bool.{true, false, true≢false}
+use lib.Dec.{ltb, ltb→lt, lt→ltb, lit≤}
 use lib.Ieee.{Float, nan, inf, fin, binary32, up, down, lt, to_unsigned}
 use lib.Ieee.Fits.{down_pos}
 use lib.Ieee.Exact.{HasValue}
 use lib.Ieee.Back.{round_whole}
+use borrow.Author.Tests.{ltb-true, ltb-false}
 use Rattle.floats.specs.Bounds.{Upto}
 use Rattle.floats.specs.Bytes.{byte_f}
 use Rattle.floats.proofs.At.{same_test}
@@ -55,3 +55,11 @@ below (fin false m e) (fin false p d) n u v = test (m * up e) (down e) (down_pos
 
 pub cut_below : (x : Float) (n : ℕ) → Upto 255 x → n < 256 → lt x (byte_f n) ≡ ltb (cut_byte x) n
 cut_below x n u h = below x (byte_f n) n u (byte_value n h)
+
+-- what a comparison with a byte says of where the float is cut
+module _ (x : Float) (n : ℕ) (u : Upto 255 x) (h : n < 256) where
+  pub cut_lt : lt x (byte_f n) ≡ true → cut_byte x < n
+  cut_lt e = ltb-true _ _ (sym (cut_below x n u h) ∙ e)
+
+  pub cut_ge : lt x (byte_f n) ≡ false → n ≤ cut_byte x
+  cut_ge e = ltb-false _ _ (sym (cut_below x n u h) ∙ e)

@@ -4,8 +4,8 @@ use Prim.Native.Nat.{ℕ, ◌*◌, ◌≤◌, ◌<◌}
 use native.Mathlib.Nat.{le_trans, le_of_eq, mul-one, one-mul}
 use native.Mathlib.Omega.{arith}
 use mathlib.Core.Bool.{Bool, true, false, cond, true≢false}
-use lib.Dec.{ltb, lit≤, lit<}
-use lib.Ieee.{Float, nan, inf, fin, binary32, up, down, mul, div, lt, of_int}
+use lib.Dec.{lit≤, lit<}
+use lib.Ieee.{Float, nan, inf, fin, binary32, up, down, mul, lt, of_int}
 use lib.Ieee.Fits.{down_pos}
 use lib.Ieee.Exact.{HasValue}
 use borrow.Author.Tests.{ltb-false}

@@ -2,13 +2,25 @@
 -- Written from document 01, "Which document decides": "A pixel with alpha below 128 reduces to transparent; otherwise each of r, g, b goes through the
 -- reduction table and alpha is 255"; and from document 02, Ask 5: "take `luma_u8` of that pixel, [..] and reduce it to all three channels; Sms reduces its
 -- channels directly. In these modes every pixel counts as opaque", and "by alpha (shift 3, 4, 5), grey (5, 6) or opaque colour (6)".
-use Rattle.std.specs.Prelude.{ℕ, Bool, true, false, cond, ◌||◌, List, ltb, eqb, get_or}
+use Rattle.std.specs.Prelude.{◌≡◌, ℕ, ◌<◌, Bool, true, false, cond, ◌||◌, List, ltb, eqb, get_or, Result, MatchResult}
+use Rattle.replies.specs.declared.Refusal.{Refusal}
+use Rattle.replies.specs.declared.Refusal.TheVariants.{KindOrShift}
 use Rattle.color.specs.declared.NormalizedColor.{NormalizedColor}
 use Rattle.color.specs.declared.ReducedColor.{ReducedColor}
 use Rattle.color.specs.Color.{rgba, transparent_reduced}
 use Rattle.reducing.specs.declared.Reducing.{Reducing}
 use Rattle.reducing.specs.declared.Reducing.TheVariants.{ByAlpha, Grey, OpaqueColor}
 use Rattle.reducing.specs.Luma.{luma_u8}
+
+-- the number by which C names a reduction
+abbrev pub reducing_number : Reducing → ℕ
+reducing_number ByAlpha = 0
+reducing_number Grey = 1
+reducing_number OpaqueColor = 2
+
+-- r is the reduction with number n, or the refusal of a number that none has
+abbrev pub Numbered : ℕ → Result Reducing Refusal → Type 0
+Numbered n r = MatchResult r (λ by. reducing_number by ≡ n) (λ e. (2 < n) × (e ≡ KindOrShift))
 
 -- the pairings that there are
 unfoldable pub is_pairing : Reducing → (shift : ℕ) → Bool

@@ -5,35 +5,52 @@
 
 mod luma;
 
-ghost use Rattle.std.specs.Prelude.{◌≡◌, length};
-ghost use Rattle.reducing.specs.Reduce.{is_pairing, solid, by_alpha, reduce_color, least_alpha, keeps_channels};
+ghost use Rattle.std.specs.Prelude.{◌≡◌};
+ghost use Rattle.reducing.specs.Reduce.{Numbered, is_pairing, solid, by_alpha, reduce_color, least_alpha, keeps_channels};
 
 use color::{NormalizedColor, ReducedColor, Rgba8888, looked_up};
 use luma::luma_u8;
+use replies::Refusal;
 
 // How the modes reduce a colour. `ByAlpha`: the colour itself, and transparent where its alpha is below 128. `Grey`: the luma
 // of an opaque colour, in all three channels. `OpaqueColor`: an opaque colour's own channels.
-#[derive(Clone, Copy)]
+#[derive(Clone, Copy, Debug, PartialEq, Eq, Hash)]
 pub enum Reducing {
     ByAlpha,
     Grey,
     OpaqueColor,
 }
 
+// By its number, as C names it.
+impl TryFrom<u32> for Reducing {
+    type Error = Refusal;
+
+    ghost try_from_gives = { Numbered };
+
+    fn try_from(number: u32) -> Result<Reducing, Refusal> {
+        match number {
+            0 => Ok(Reducing::ByAlpha),
+            1 => Ok(Reducing::Grey),
+            2 => Ok(Reducing::OpaqueColor),
+            _ => Err(Refusal::KindOrShift),
+        }
+    }
+}
+
 // Whether some mode reduces so with this shift.
+#[tactic(auto, unfolding(crate::specs::Reduce::is_pairing))]
 pub fn is_pairing(reducing: Reducing, shift: u32) -> bool
     ensures { result ≡ is_pairing reducing shift }
 {
     match reducing {
-        Reducing::ByAlpha => (shift == 3) | ((shift == 4) | (shift == 5)),
-        Reducing::Grey => (shift == 5) | (shift == 6),
+        Reducing::ByAlpha => matches!(shift, 3..=5),
+        Reducing::Grey => matches!(shift, 5 | 6),
         Reducing::OpaqueColor => shift == 6,
     }
 }
 
-// Three channels through the reduction table, and alpha 255. No public call: the caller sees to the table's length.
-fn solid(reduction: &[u8], r: u8, g: u8, b: u8) -> ReducedColor
-    requires { length reduction.now ≡ 256 }
+// Three channels through the reduction table, and alpha 255.
+fn solid(reduction: &[u8; 256], r: u8, g: u8, b: u8) -> ReducedColor
     ensures { result ≡ solid reduction.now r g b }
 {
     ReducedColor(Rgba8888 {
@@ -44,10 +61,8 @@ fn solid(reduction: &[u8], r: u8, g: u8, b: u8) -> ReducedColor
     })
 }
 
-// Transparent where alpha is below 128; otherwise its channels through the table. No public call: the caller sees to the
-// table's length.
-fn by_alpha(reduction: &[u8], c: NormalizedColor) -> ReducedColor
-    requires { length reduction.now ≡ 256 }
+// Transparent where alpha is below 128; otherwise its channels through the table.
+fn by_alpha(reduction: &[u8; 256], c: NormalizedColor) -> ReducedColor
     ensures { result ≡ by_alpha reduction.now c }
 {
     if c.0.a < 128 {
@@ -56,9 +71,9 @@ fn by_alpha(reduction: &[u8], c: NormalizedColor) -> ReducedColor
     solid(reduction, c.0.r, c.0.g, c.0.b)
 }
 
-// A colour reduced. No public call: the caller sees to the table's length.
-pub fn reduce_color(reducing: Reducing, reduction: &[u8], c: NormalizedColor) -> ReducedColor
-    requires { length reduction.now ≡ 256 }
+// A colour reduced.
+#[tactic(auto, unfolding(crate::specs::Reduce::reduce_color))]
+pub fn reduce_color(reducing: Reducing, reduction: &[u8; 256], c: NormalizedColor) -> ReducedColor
     ensures { result ≡ reduce_color reducing reduction.now c }
 {
     match reducing {
@@ -78,8 +93,7 @@ pub fn least_alpha(reducing: Reducing) -> u8
 {
     match reducing {
         Reducing::ByAlpha => 128,
-        Reducing::Grey => 0,
-        Reducing::OpaqueColor => 0,
+        Reducing::Grey | Reducing::OpaqueColor => 0,
     }
 }
 
@@ -87,9 +101,5 @@ pub fn least_alpha(reducing: Reducing) -> u8
 pub fn keeps_channels(reducing: Reducing) -> bool
     ensures { result ≡ keeps_channels reducing }
 {
-    match reducing {
-        Reducing::ByAlpha => true,
-        Reducing::Grey => false,
-        Reducing::OpaqueColor => true,
-    }
+    reducing != Reducing::Grey
 }

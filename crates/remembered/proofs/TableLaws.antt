@@ -1,37 +1,27 @@
--- A table of answers remembered by colour: what is recalled of a colour is its answer, one word more, the last position noted, and the empty table;
--- the answers themselves go by red, green and blue alone. Assumes nothing.
+-- A table of answers remembered by colour: a colour's answer more, and the empty table; the answers themselves go by red, green and blue alone.
+-- Assumes nothing.
 use mathlib.Core.Path.{◌≡◌, refl, sym, ap, ◌∙◌}
 use mathlib.Core.Bool.{Bool, true, false}
-use mathlib.Core.List.{List}
-use Prim.Native.Nat.{ℕ, zero, suc, ◌+◌, ◌-◌, ◌*◌, ◌/◌, ◌%◌, ◌<◌}
-use native.Mathlib.Numerals.{unary_clauses}
+use Prim.Native.Nat.{ℕ, ◌+◌, ◌*◌, ◌%◌, ◌<◌}
 use native.Mathlib.Omega.{arith}
 use borrow.Author.Tests.{eqb-true, eqb-false}
-use lib.Dec.{eqb, lit<}
-use lib.ListN.{length, get_or, set, length-set, replicate, length-replicate, get_or-replicate}
+use lib.Dec.{eqb}
+use lib.ListN.{length, get_or, set, replicate, get_or-replicate}
 use lib.Seq.{get_or-set_same, get_or-set_other}
+use Rattle.std.specs.Prelude.{None}
 use Rattle.color.specs.declared.NormalizedColor.{NormalizedColor}
-use Rattle.mixing.specs.Lerp.{Bytes, EqualRgb}
-use Rattle.lookup.specs.declared.Two.{Two}
-use Rattle.lookup.specs.declared.Second.{Second}
-use Rattle.lookup.specs.declared.Second.TheVariants.{At, Nothing}
 use Rattle.color.specs.declared.Oklab.{Oklab}
 use Rattle.color.specs.Color.{rgba}
+use Rattle.mixing.specs.Lerp.{Bytes, EqualRgb, along, share_of, mix_residual}
+use Rattle.lookup.specs.declared.Two.{Two}
 use Rattle.conversion.specs.Linear.{linear_of}
 use Rattle.conversion.specs.Oklab.{millionths_of, oklab_of, to_oklab}
-use Rattle.mixing.specs.Lerp.{along, share_of, mix_residual}
 use Rattle.shortlist.specs.Candidates.{Candidates}
 use Rattle.shortlist.specs.Nearest.{nearest_in}
 use Rattle.lookup.specs.Second.{nearest_two_of}
-use Rattle.remembered.specs.Table.{memory_size, pair_room, position_room, nearest_alone, nearest_both, key_of, second_with, pair_with, TableOf, ByRgb}
-
--- a word's key, and the number beside it
-module _ (k x : ℕ) (l : x < pair_room) where
-  word_key : (k * pair_room + x) / pair_room ≡ k
-  word_key = omega arith
-
-  word_number : (k * pair_room + x) % pair_room ≡ x
-  word_number = omega arith
+use Rattle.remembered.specs.declared.Known.{Known}
+use Rattle.remembered.specs.declared.Memory.{Memory}
+use Rattle.remembered.specs.Table.{nearest_alone, nearest_both, key_of, two_of, TableOf, ByRgb}
 
 -- the key has red, green and blue
 low : (x y : ℕ) → x < 256 → (x + 256 * y) % 256 ≡ x
@@ -47,62 +37,38 @@ key_only c c' s t e =
     let g : c.0.g ≡ c'.0.g = same_low c.0.g c.0.b c'.0.g c'.0.b s.g t.g (omega arith) in
     record { r = r; g = g; b = omega arith }
 
-module _ (f : NormalizedColor → Two) (memory : List ℕ) (kept : TableOf f memory) where
-  -- the number beside a colour's key is its pair's
-  pub table_pair : (c : NormalizedColor) (j : ℕ) → Bytes c → j < 256 → get_or memory j 0 / pair_room ≡ key_of c
-      → pair_with (get_or memory j 0 % pair_room + 1 - 1) ≡ f c
-  table_pair c j s l e = let back : get_or memory j 0 % pair_room + 1 - 1 ≡ get_or memory j 0 % pair_room = omega arith in ap pair_with back ∙ kept.right j l c s e
+-- what is left alone
+pub table_same : (f : NormalizedColor → Two) (was memory : Memory) → TableOf f was → memory.known ≡ was.known → TableOf f memory
+table_same f was memory kept e = record { right = λ j l c s any. rw e (kept.right j l c s any) }
 
-  -- a word that changes to one that is right
-  stored : (j w : ℕ) → j < memory_size → (j < 256 → (c : NormalizedColor) → Bytes c → w / pair_room ≡ key_of c → pair_with (w % pair_room) ≡ f c)
-      → TableOf f (set memory j w)
-  stored j w h right = record { room = simp length-set kept.room; right = λ i l. go i l (eqb i j) refl }
-    where
-      go : (i : ℕ) → i < 256 → (t : Bool) → eqb i j ≡ t → (c : NormalizedColor) → Bytes c → get_or (set memory j w) i 0 / pair_room ≡ key_of c
-          → pair_with (get_or (set memory j w) i 0 % pair_room) ≡ f c
-      go i l true t =
-          let q : i ≡ j = eqb-true i j t in
-          let k : j < 256 = omega arith in
-          let inside : j < length memory = omega (arith, kept.room) in
-          rw (q, get_or-set_same) (right k)
-      go i l false t = let n : i ≡ j → ⊥ = eqb-false i j t in rw get_or-set_other (kept.right i l)
-
-  -- a colour's pair is remembered
-  pub table_more : ByRgb f → (c : NormalizedColor) (j x : ℕ) → Bytes c → j < 256 → x < pair_room → pair_with x ≡ f c
-      → TableOf f (set memory j (key_of c * pair_room + x))
-  table_more by c j x s l h e =
-      stored j (key_of c * pair_room + x) (omega arith)
-      (λ _ c' t same. ap pair_with (word_number (key_of c) x h) ∙ e ∙ by.same c c' (key_only c c' s t (sym (word_key (key_of c) x h) ∙ same)))
-
-  -- the last position is noted behind the words
-  pub table_last : (k : ℕ) → TableOf f (set memory 256 k)
-  table_last k = stored 256 k (lit< tt) (λ l. absurd (omega arith))
+-- a colour's answer is remembered in place j
+pub table_more : (f : NormalizedColor → Two) (was memory : Memory) → TableOf f was → ByRgb f → (c : NormalizedColor) (j : ℕ) (x : Known) → Bytes c
+    → j < length was.known → x.key ≡ key_of c → two_of x.pair ≡ f c → memory.known ≡ set was.known j x → TableOf f memory
+table_more f was memory kept by c j x s l k e m = record { right = λ i h. go i h (eqb i j) refl }
+  where
+    go : (i : ℕ) → i < 256 → (t : Bool) → eqb i j ≡ t → (c' : NormalizedColor) → Bytes c' → (any : Known)
+        → (get_or memory.known i any).key ≡ key_of c' → two_of (get_or memory.known i any).pair ≡ f c'
+    go i h true t c' s' any same =
+        let q : i ≡ j = eqb-true i j t in
+        let here : get_or memory.known i any ≡ x = rw (m, q, get_or-set_same) refl in
+        let keys : key_of c ≡ key_of c' = sym k ∙ sym (ap (λ (y : Known). y.key) here) ∙ same in
+        ap (λ (y : Known). two_of y.pair) here ∙ e ∙ by.same c c' (key_only c c' s s' keys)
+    go i h false t c' s' any same =
+        let n : i ≡ j → ⊥ = eqb-false i j t in
+        let there : get_or memory.known i any ≡ get_or was.known i any = rw (m, get_or-set_other) refl in
+        ap (λ (y : Known). two_of y.pair) there ∙ kept.right i h c' s' any (ap (λ (y : Known). y.key) (sym there) ∙ same)
 
 -- nothing is remembered yet
-pub table_none : (f : NormalizedColor → Two) → TableOf f (replicate memory_size 0)
+pub table_none : (f : NormalizedColor → Two) (memory : Memory) → memory.known ≡ replicate 256 (record { key = 0; pair = record { first = 0; second = None } })
+    → TableOf f memory
 unfolding key_of
-table_none f = record {
-  room = length-replicate memory_size zero;
-  right = λ j l c s e. absurd (none c (sym (ap (λ (w : ℕ). w / pair_room) (get_or-replicate memory_size j zero zero (omega arith))) ∙ e));
-}
+table_none f memory m = record { right = λ j l c s any e. absurd (none c (sym (key j l any) ∙ e)) }
   where
-    none : (c : NormalizedColor) → 0 / pair_room ≡ key_of c → ⊥
+    none : (c : NormalizedColor) → 0 ≡ key_of c → ⊥
     none c e = omega arith
 
--- ---- pairs as numbers
-pub second_more : (k : ℕ) → second_with (k + 1) ≡ At k
-second_more k = simp unary_clauses refl
-
-pub second_less : (s : ℕ) → (s ≡ 0 → ⊥) → second_with s ≡ At (s - 1)
-second_less zero n = absurd (n refl)
-second_less (suc k) n = ap At (omega arith)
-
-pub pair_is : (a s : ℕ) (second : Second) → s < position_room → second_with s ≡ second → pair_with (a * position_room + s) ≡ (record { first = a; second = second })
-unfolding pair_with
-pair_is a s second l e =
-    let d : (a * position_room + s) / position_room ≡ a = omega arith in
-    let m : (a * position_room + s) % position_room ≡ s = omega arith in
-    λ q. record { first = d q; second = (ap second_with m ∙ e) q }
+    key : (j : ℕ) → j < 256 → (any : Known) → (get_or memory.known j any).key ≡ 0
+    key j l any = rw m (ap (λ (x : Known). x.key) (get_or-replicate 256 j _ any l))
 
 -- ---- the answers go by red, green and blue alone
 module _ (c c' : NormalizedColor) (e : EqualRgb c c') where
@@ -112,7 +78,7 @@ module _ (c c' : NormalizedColor) (e : EqualRgb c c') where
 
 pub alone_by_rgb : (oklab : ℕ → Oklab) (n : ℕ) → ByRgb (nearest_alone oklab n)
 unfolding nearest_alone
-alone_by_rgb oklab n = record { same = λ c c' e q. record { first = nearest_in oklab n (oklab_same c c' e q); second = Nothing } }
+alone_by_rgb oklab n = record { same = λ c c' e q. record { first = nearest_in oklab n (oklab_same c c' e q); second = None } }
 
 -- the colour c, with the alpha a
 abbrev with_alpha : NormalizedColor → ℕ → NormalizedColor

@@ -1,3 +1,4 @@
--- The definitions of `remembered`: pairs as numbers, and a table of answers remembered by colour.
+-- The definitions of `remembered`: a table of answers remembered by colour, rows of shortlists, and what the lent lists say.
 pub mod Table
 pub mod Shorts
+pub mod Lent

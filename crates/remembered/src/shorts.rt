@@ -1,19 +1,61 @@
-// Shortlists remembered by the entry that they belong to, in 128 rows of the lent memory.
-ghost use Rattle.std.specs.Prelude.{◌≡◌, ℕ, ◌+◌, ◌-◌, ◌*◌, ◌%◌, ◌<◌, ◌≤◌, min, List, length, get_or, take};
+// Shortlists remembered by the entry that they belong to: an entry's row is its position modulo the number of rows, and a newer
+// entry takes an older one's place.
+ghost use Rattle.std.specs.Prelude.{◌≡◌, ℕ, ◌+◌, ◌-◌, ◌*◌, ◌%◌, ◌<◌, ◌≤◌, ◌↔◌, IsTrue, Some, min, length, get_or, take};
 ghost use Rattle.color.specs.Oklab.{oklab_at};
 ghost use Rattle.mixing.specs.Widths.{clamp_width};
-ghost use Rattle.shortlist.specs.Candidates.{RangedList};
-ghost use Rattle.remembered.specs.Table.{memory_size};
-ghost use Rattle.remembered.specs.Shorts.{shortlist_at, digit_of, Packed, RowsOf, CopiedIn, CopiedOut};
+ghost use Rattle.remembered.specs.Shorts.{shortlist_at, RowsOf};
 
-use super::MEMORY;
+use super::{Memory, Oklabs, ROWS};
 use mixing::clamp_width;
+use shortlist::Shortlist;
 
-// Where the row of an entry begins.
-fn row_of(a: usize) -> usize
-    ensures { result ≡ 257 + 5 * (a % 128) }
-{
-    257 + 5 * (a % 128)
+// An entry's shortlist, of positions that have 16 bits; no entry's where nothing stands there yet. A shortlist has as many
+// entries as the width and the list allow, so no row has a count.
+#[derive(Clone, Copy)]
+pub struct Row {
+    entry: Option<u16>,
+    positions: [u16; 16],
+}
+
+impl Row {
+    pub const NONE: Row = Row {
+        entry: None,
+        positions: [0; 16],
+    };
+
+    // Whether it is entry a's.
+    fn is_of(&self, a: usize) -> bool
+        ensures { IsTrue result ↔ (self.now.entry ≡ Some a) }
+    {
+        self.entry.map(usize::from) == Some(a)
+    }
+
+    // Entry a's; what is above 16 bits is lost.
+    fn of(a: usize, short: &Shortlist) -> Row
+        requires { a < 65536 }
+        ensures entry { result.entry ≡ Some a }
+        ensures positions { (i : ℕ) → i < 16 → get_or result.positions i 0 ≡ get_or short.now.positions i 0 % 65536 }
+    {
+        let mut positions = [0; 16];
+        for i in 0..16 {
+            positions[i] = (short.positions[i] % 65536) as u16;
+        }
+        Row {
+            entry: Some(a as u16),
+            positions,
+        }
+    }
+
+    // Lists the first m positions; how far they are is not remembered.
+    fn recall(&self, m: usize, short: &mut Shortlist)
+        requires { m ≤ 16 }
+        ensures { take short.new.count short.new.positions ≡ take m self.now.positions }
+    {
+        for i in 0..m {
+            short.positions[i] = usize::from(self.positions[i]);
+        }
+        short.count = m;
+    }
 }
 
 // How many entries a shortlist has.
@@ -21,98 +63,32 @@ fn length_of(n: usize, width: u64) -> usize
     requires { 0 < n }
     ensures { (result ≡ min (clamp_width width) (n - 1)) × (result ≤ 16) }
 {
-    let w = clamp_width(width) as usize;
-    if w < n {
-        return w;
+    (clamp_width(width) as usize).min(n - 1)
+}
+
+impl Memory {
+    // Lists entry a's shortlist, recalled or worked out and then remembered, if the list's positions have 16 bits. No
+    // public call: the caller sees to the entry and the memory.
+    pub(crate) fn shortlist(
+        &mut self,
+        oklabs: &Oklabs<'_>,
+        a: usize,
+        width: u64,
+        short: &mut Shortlist,
+    )
+        requires { (a < oklabs.now.count) × RowsOf (shortlist_at (oklab_at oklabs.now.oklab.now) oklabs.now.count width) self.old }
+        ensures listed { take short.new.count short.new.positions ≡ shortlist_at (oklab_at oklabs.now.oklab.now) oklabs.now.count width a }
+        ensures rows { RowsOf (shortlist_at (oklab_at oklabs.now.oklab.now) oklabs.now.count width) self.new }
+        ensures known { self.new.known ≡ self.old.known }
+    {
+        let row = &self.rows[a % ROWS];
+        if row.is_of(a) {
+            row.recall(length_of(oklabs.count, width), short);
+            return;
+        }
+        short.list(oklabs.oklab, oklabs.count, a, width);
+        if oklabs.count <= 65536 {
+            self.rows[a % ROWS] = Row::of(a, short);
+        }
     }
-    n - 1
-}
-
-// Copies m positions from the words from p on.
-fn copy_out(memory: &[u64; MEMORY], p: usize, m: usize, positions: &mut [usize; 16])
-    requires { (length memory.now ≡ memory_size) × (length positions.old ≡ 16) × (m ≤ 16) × (p + 4 ≤ memory_size) }
-    ensures { CopiedOut memory.now p m positions.new }
-{
-    let mut i = 0;
-    while i < m {
-        positions[i] = digit(memory[p + i / 4], i % 4);
-        i += 1;
-    }
-}
-
-// Number j of a word.
-fn digit(x: u64, j: usize) -> usize
-    requires { j < 4 }
-    ensures { result ≡ digit_of x j }
-{
-    ((x >> (16 * j)) % 65536) as usize
-}
-
-// Four positions in a word; what is above 16 bits is lost.
-fn packed(a: usize, b: usize, c: usize, d: usize) -> u64
-    ensures { Packed a b c d result }
-{
-    let low = (a % 65536) as u64 + (b % 65536) as u64 * 65536;
-    let high = (c % 65536) as u64 + (d % 65536) as u64 * 65536;
-    low + high * 4294967296
-}
-
-// Packs the positions into the four words from p on.
-fn copy_in(memory: &mut [u64; MEMORY], p: usize, positions: &[usize; 16])
-    requires { (length memory.old ≡ memory_size) × (length positions.now ≡ 16) × (p + 4 ≤ memory_size) }
-    ensures { CopiedIn positions.now p 4 memory.old memory.new }
-{
-    let mut w = 0;
-    while w < 4 {
-        let i = 4 * w;
-        memory[p + w] = packed(
-            positions[i],
-            positions[i + 1],
-            positions[i + 2],
-            positions[i + 3],
-        );
-        w += 1;
-    }
-}
-
-// Remembers entry a's shortlist, if the list's positions have 16 bits.
-fn keep_short(memory: &mut [u64; MEMORY], n: usize, a: usize, m: usize, positions: &[usize; 16])
-    requires { (length memory.old ≡ memory_size) × (length positions.now ≡ 16) × (m ≤ 16) × (a < n) × ((i : ℕ) → i < m → get_or positions.now i 0 < n) }
-    ensures { (length memory.new ≡ memory_size) × ((q : ℕ) → q < 257 → get_or memory.new q 0 ≡ get_or memory.old q 0)
-        × ((f : ℕ → List ℕ) → ((b : ℕ) → length (f b) ≤ 16) → RowsOf f memory.old → take m positions.now ≡ f a
-        → RowsOf f memory.new) }
-{
-    if n > 65536 {
-        return;
-    }
-    let p = row_of(a);
-    copy_in(memory, p + 1, positions);
-    memory[p] = a as u64 + 1;
-}
-
-// Entry a's shortlist, recalled or worked out and then remembered; answers how many. No public call: the caller sees to the
-// list, the entry and the memory.
-pub fn shortlist(
-    oklab: &[f32],
-    n: usize,
-    a: usize,
-    width: u64,
-    positions: &mut [usize; 16],
-    memory: &mut [u64; MEMORY],
-) -> usize
-    requires { RangedList oklab.now n × (a < n) × (length positions.old ≡ 16) × RowsOf (shortlist_at (oklab_at oklab.now) n width) memory.old }
-    ensures { (take result positions.new ≡ shortlist_at (oklab_at oklab.now) n width a) × (result ≤ 16) × (length positions.new ≡ 16)
-        × RowsOf (shortlist_at (oklab_at oklab.now) n width) memory.new
-        × ((q : ℕ) → q < 257 → get_or memory.new q 0 ≡ get_or memory.old q 0) }
-{
-    let p = row_of(a);
-    if memory[p] == a as u64 + 1 {
-        let m = length_of(n, width);
-        copy_out(memory, p + 1, m, positions);
-        return m;
-    }
-    let mut far = [0.0f32; 16];
-    let m = shortlist::shortlist(oklab, n, a, width, positions, &mut far);
-    keep_short(memory, n, a, m, positions);
-    m
 }

@@ -3,107 +3,67 @@
 // A line of the list is a comment (#), the name of a group (g), the two lent tables for the cases after it (k), or a case.
 #![tactic(auto)]
 
-ghost use Rattle.std.specs.Prelude.{◌≡◌, ◌≤◌, IfOk, length};
+ghost use Rattle.std.specs.Prelude.{◌≡◌, ◌<◌, ◌≤◌, IfOk, IfSome, length};
 
+use recorded::{Malformed, Room};
 use std::io;
 use std::io::{Read, Write};
 
-// What the group that is open has come to: its cases so far, and the number of the first that differs, 0 where there is
-// none; and where the line of the tables stands in the list.
+// What the group that is open has come to: its cases so far, and the number of the first that differs.
 #[derive(Clone, Copy)]
-struct State {
-    open: bool,
+struct Group {
     count: u64,
-    first: u64,
-    tables: usize,
-    tables_end: usize,
+    first: Option<u64>,
 }
 
-impl State {
+impl Group {
     fn new() -> Self {
-        State {
-            open: false,
+        Group {
             count: 0,
-            first: 0,
-            tables: 0,
-            tables_end: 0,
+            first: None,
         }
     }
 
-    // A new group.
-    fn named(self) -> Self {
-        State {
-            open: true,
-            count: 0,
-            first: 0,
-            tables: self.tables,
-            tables_end: self.tables_end,
-        }
-    }
-
-    // Other tables.
-    fn lent(self, from: usize, to: usize) -> Self {
-        State {
-            open: self.open,
-            count: self.count,
-            first: self.first,
-            tables: from,
-            tables_end: to,
-        }
-    }
-
-    // One case more.
+    // One case more. No more than a million are counted.
     fn counted(self, same: bool) -> Self {
-        let count = if self.count < 1000000 {
-            self.count + 1
-        } else {
-            1000000
-        };
-        let first = if same | (self.first != 0) {
-            self.first
-        } else {
-            count
-        };
-        State {
-            open: true,
+        let count = (self.count.min(999_999)) + 1;
+        Group {
             count,
-            first,
-            tables: self.tables,
-            tables_end: self.tables_end,
+            first: self.first.or(if same { None } else { Some(count) }),
         }
     }
-}
 
-fn verdict(rt: &impl Print, first: u64) -> io::Result<()> {
-    if first == 0 {
-        return println!(rt; " same");
+    // Ends the group's line.
+    fn told(self, rt: &impl Print) -> io::Result<()> {
+        let count = self.count;
+        match self.first {
+            None => println!(rt; " {count} same"),
+            Some(first) => println!(rt; " {count} differs at {first}"),
+        }
     }
-    println!(rt; " differs at {first}")
-}
-
-// Ends a group's line.
-fn told(rt: &impl Print, s: State) -> io::Result<()> {
-    if s.open {
-        let count = s.count;
-        print!(rt; " {count}")?;
-        verdict(rt, s.first)?;
-    }
-    Ok(())
 }
 
 // The line of the tables, where the call is lent them.
-fn tables(list: &[u8], letter: u8, s: State) -> &[u8] {
+fn lent(tables: &[u8], letter: u8) -> &[u8] {
     if picture_cases::has_tables(letter) {
-        return recorded::piece(list, s.tables, s.tables_end);
+        tables
+    } else {
+        &[]
     }
-    recorded::piece(list, 0, 0)
 }
 
-// Whether our answer to a case is the recorded one. The tables are its first tokens.
-fn same(tables: &[u8], line: &[u8], letter: u8, room: &mut [u8]) -> bool {
-    recorded::clear(room);
-    recorded::decode(tables, room);
-    recorded::decode(line, room);
+// Reads the tokens of a case. The tables are its first.
+fn read(tables: &[u8], line: &[u8], room: &mut Room) -> Result<(), Malformed> {
+    room.clear();
+    room.decode(tables)?;
+    room.decode(line)
+}
+
+// Whether our answer to a case is the recorded one.
+fn same(tables: &[u8], line: &[u8], letter: u8, room: &mut Room) -> bool {
+    if read(lent(tables, letter), line, room).is_err() {
+        return false;
+    }
     if picture_cases::has_tables(letter) {
         return picture_cases::same(letter, room);
     }
@@ -113,50 +73,55 @@ fn same(tables: &[u8], line: &[u8], letter: u8, room: &mut [u8]) -> bool {
     cases::same(letter, room)
 }
 
-// The line from `from` up to `to`.
-fn turn(
-    rt: &impl Print,
-    list: &[u8],
-    from: usize,
-    to: usize,
-    s: State,
-    room: &mut [u8],
-) -> io::Result<State> {
-    let line = recorded::piece(list, from, to);
-    let letter = recorded::byte_at(line, 0);
-    if letter == b'#' {
-        return Ok(s);
+// The first line of a list that has one, and what is behind it. The library's iterator over such parts, `split_inclusive`,
+// gets no proof in the loop below, whose function has a handle.
+fn first_line(list: &[u8]) -> Option<(&[u8], &[u8])>
+    ensures { IfSome result (λ lines. length lines.1.now < length list.now) }
+{
+    if list.is_empty() {
+        return None;
     }
-    if letter == b'k' {
-        return Ok(s.lent(from, to));
-    }
-    if letter == b'g' {
-        told(rt, s)?;
-        io::writer(rt).write_all(recorded::piece(line, 2, line.len()))?;
-        return Ok(s.named());
-    }
-    Ok(s.counted(same(tables(list, letter, s), line, letter, room)))
+    let end = recorded::find(list, 0, b'\n');
+    Some((&list[..end], list.get(end + 1..).unwrap_or(&[])))
 }
 
-fn replay(rt: &impl Print, list: &[u8], room: &mut [u8]) -> io::Result<()> {
-    let mut s = State::new();
-    let mut at = 0;
-    while at < list.len() {
-        let end = recorded::find(list, at, b'\n');
-        s = turn(rt, list, at, end, s, room)?;
-        at = recorded::past(at, end, list.len());
+fn replay(rt: &impl Print, list: &[u8], room: &mut Room) -> io::Result<()> {
+    let mut group: Option<Group> = None;
+    let mut tables: &[u8] = &[];
+    let mut rest = list;
+    while let Some((line, behind)) = first_line(rest) {
+        rest = behind;
+        match recorded::byte_at(line, 0) {
+            b'#' => {}
+            b'k' => tables = line,
+            b'g' => {
+                if let Some(ended) = group {
+                    ended.told(rt)?;
+                }
+                io::writer(rt).write_all(line.get(2..).unwrap_or(&[]))?;
+                group = Some(Group::new());
+            }
+            letter => {
+                let same = same(tables, line, letter, room);
+                group = Some(group.unwrap_or(Group::new()).counted(same));
+            }
+        }
     }
-    told(rt, s)
+    match group {
+        Some(ended) => ended.told(rt),
+        None => Ok(()),
+    }
 }
 
-// Room for the whole list.
+// Room for the whole list. Kept: an array of so many zeros in `main` is computed by the check, which runs out of stack at it.
 fn list_buffer() -> [u8; 600000]
     ensures { 600000 ≡ length result }
 {
     [0; 600000]
 }
 
-// Reads standard input into the buffer, to the end of either. Answers how many bytes there are.
+// Reads standard input into the buffer, to the end of either. Answers how many bytes there are. Kept: what the library reads
+// to the end goes into a Vec, and there is no heap.
 fn read_full(rt: &impl Input, buf: &mut [u8]) -> io::Result<usize>
     ensures { IfOk result (λ n. n ≤ length buf.new) }
 {
@@ -175,6 +140,6 @@ fn read_full(rt: &impl Input, buf: &mut [u8]) -> io::Result<usize>
 fn main(rt: HostRuntime) -> io::Result<()> {
     let mut list = list_buffer();
     let n = read_full(&rt, &mut list)?;
-    let mut room = [0u8; 32768];
+    let mut room = Room::new();
     replay(&rt, &list[..n], &mut room)
 }

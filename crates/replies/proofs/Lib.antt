@@ -2,4 +2,5 @@
 pub mod ReplyLaws
 pub mod LowestLaws
 pub mod AnswerLaws
+pub mod RefusalLaws
 pub mod UniqueLaws

@@ -159,3 +159,8 @@ lead_end d n seed leader h u s =
         go : (t : Bool) → lt (d seed) (d j) ≡ t → G
         go true e = b (nlt_lt_trans leader.distance (d seed) (d j) pl (plain seed h) (plain j l) (s.least seed h (self (d seed))) (holds e))
         go false e = a (fails e)
+
+-- one after the other
+pub onward : (d : ℕ → Float) (reach : Float) {i j k : ℕ} {before at after : Leader} → j ≤ k → Onward d reach i j before at → Onward d reach j k at after
+    → Onward d reach i k before after
+onward d reach {j = j} {k = k} l x y n h u s = y n h u (x n (omega (arith, l, h)) u s)

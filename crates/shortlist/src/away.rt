@@ -21,20 +21,9 @@ pub fn eight_farther(oklab: &[f32], k: usize, l: f32, a: f32, b: f32, limit: f32
     ensures { result ≡ farther (distances (record { l = l; a = a; b = b }) (oklab_at oklab.now)) limit k 8 }
 {
     let o = Oklab { l: l, a: a, b: b };
-    let d0 = distance_to(oklab, k, o);
-    let d1 = distance_to(oklab, k + 1, o);
-    let d2 = distance_to(oklab, k + 2, o);
-    let d3 = distance_to(oklab, k + 3, o);
-    let d4 = distance_to(oklab, k + 4, o);
-    let d5 = distance_to(oklab, k + 5, o);
-    let d6 = distance_to(oklab, k + 6, o);
-    let d7 = distance_to(oklab, k + 7, o);
-    (limit < d0)
-        & (limit < d1)
-        & (limit < d2)
-        & (limit < d3)
-        & (limit < d4)
-        & (limit < d5)
-        & (limit < d6)
-        & (limit < d7)
+    let mut all = true;
+    for i in 0..8 {
+        all &= limit < distance_to(oklab, k + i, o);
+    }
+    all
 }

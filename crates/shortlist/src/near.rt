@@ -1,6 +1,7 @@
 // The nearest entry of a flat list of Oklab colours. A short list is searched by twos; a longer one eight entries at a time: eight
 // that are all farther than the leader, or all farther than a seed, are passed over. Where the last search ended is a good seed;
-// it changes nothing but the time.
+// it changes nothing but the time. Kept as two parameters: the list and the colour, which would be read back from memory if they
+// came in one struct (`nearest_position`).
 ghost use Rattle.std.specs.Prelude.{◌≡◌, ℕ, ◌+◌, ◌*◌, ◌<◌, ◌≤◌, T, length, Float};
 ghost use Rattle.color.specs.Oklab.{all_in_range, oklab_at};
 ghost use Rattle.shortlist.specs.Candidates.{RangedList};
@@ -57,19 +58,21 @@ fn leader_by_two(oklab: &[f32], o: Oklab, k: usize, leader: Leader) -> Leader
     nearer(leader, ahead)
 }
 
-// The leader after the entries from `from` to before `to`, two by two, and one that is left over.
+// The leader after the entries from `from` to before `to`, two by two, and one that is left over. Compiled into its callers:
+// as a call it takes what it is given from memory, and a diffused picture 7 parts of 100 more time.
+#[inline(always)]
 fn leader_between(oklab: &[f32], o: Oklab, from: usize, to: usize, start: Leader) -> Leader
     requires { (from ≤ to) × (3 * to ≤ length oklab.now) }
     ensures { (reach : Float) → Onward (distances o (oklab_at oklab.now)) reach from to start result }
 {
     let mut leader = start;
-    let mut k = from;
-    while 2 <= to - k {
-        leader = leader_by_two(oklab, o, k, leader);
-        k += 2;
+    let pairs = (to - from) / 2;
+    for pair in 0..pairs {
+        leader = leader_by_two(oklab, o, from + 2 * pair, leader);
     }
-    if k < to {
-        return nearer(leader, entry_at(oklab, k, o));
+    let last = from + 2 * pairs;
+    if last < to {
+        return nearer(leader, entry_at(oklab, last, o));
     }
     leader
 }
@@ -94,12 +97,10 @@ fn leader_of(oklab: &[f32], count: usize, o: Oklab, seed: usize, start: Leader) 
 {
     let reach = distance_to(oklab, seed, o);
     let mut leader = start;
-    let mut k = 0;
-    while 8 <= count - k {
-        leader = leader_by_eight(oklab, o, reach, k, leader);
-        k += 8;
+    for block in 0..count / 8 {
+        leader = leader_by_eight(oklab, o, reach, 8 * block, leader);
     }
-    leader_between(oklab, o, k, count, leader)
+    leader_between(oklab, o, 8 * (count / 8), count, leader)
 }
 
 // The position of the smallest distance from the colour l, a, b, the first of equals. The seed is an entry that is likely

@@ -1,20 +1,10 @@
 -- `diffusion::biased` meets its contract: sixteen times the source, plus the cell, is rounded and clipped. Assumes nothing.
-use borrow.Author.Rules.{rules}
 use mathlib.Core.Path.{◌∙◌, ap}
-use Prim.Native.Nat.{◌*◌}
-use lib.IntN.{ℤ, pos, ◌+ℤ◌}
+use lib.IntN.{ℤ}
 use mir.Syntax.{w16, w32}
 use mir.ValLaws.{to_z-of_z}
 use Rattle.diffusion.specs.Biased.{biased_of, clip, halves}
-use Rattle.diffusion.proofs.Machine.{both_small}
 use Rattle.diffusion.proofs.biased.Goals as goal
-
-pub clamp_u8-requires : goal.clamp_u8-requires
-clamp_u8-requires c =
-    let s = c in
-    let sum = c.in_sixteenths in
-    rw (to_z-of_z w32 sum.result (record { sfits = sum.type_inv }) ∙ sum.ensures ∙ ap (λ (z : ℤ). pos (s.args.source * 16) +ℤ z) (to_z-of_z w16 s.args.cell s.ranges.cell))
-    (both_small s.args.source s.args.cell (search rules) s.ranges.cell)
 
 pub returns : goal.returns
 returns c =

@@ -3,7 +3,7 @@ use mathlib.Core.Path.{ap}
 use lib.IntN.{pos}
 use lib.ListN.{get_or, set}
 use Rattle.diffusion.specs.Scatter.{more}
-use Rattle.diffusion.proofs.Machine.{product_fits, sum_fits, sum_is}
+use Rattle.diffusion.proofs.Machine.{sum_fits, sum_is}
 use Rattle.diffusion.proofs.send_one.Goals as goal
 
 pub returns : goal.returns
@@ -11,11 +11,6 @@ unfolding more
 returns c =
     let a = c.args in
     ap (set a.cells.now a.at) (sum_is (get_or a.cells.now a.at (pos 0)) a.residual a.weight c.requires.1 c.requires.2)
-
-pub overflow_mul-cells : goal.overflow_mul-cells
-overflow_mul-cells c =
-    let a = c.args in
-    product_fits (get_or a.cells.now a.at (pos 0)) a.residual a.weight c.requires.1 c.requires.2
 
 pub overflow_add-cells : goal.overflow_add-cells
 overflow_add-cells c =

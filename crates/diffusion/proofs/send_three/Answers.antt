@@ -13,7 +13,7 @@ use Rattle.diffusion.specs.Scatter.{more, send}
 use Rattle.patterns.specs.Kernel.{pixel}
 use Rattle.diffusion.specs.Sends.{RoomIn, RoomAt}
 use Rattle.diffusion.proofs.Scatter.{more-length}
-use Rattle.diffusion.proofs.Machine.{room_kept}
+use Rattle.diffusion.proofs.Machine.{small_fits, room_kept}
 use Rattle.diffusion.proofs.send_three.Goals as goal
 
 -- the room of each channel, and that of a later channel after an earlier one's send
@@ -39,29 +39,21 @@ module _ (cells : List ℤ) (i w : ℕ) (inside : 3 * i + 2 < length cells) (roo
 pub returns : goal.returns
 unfolding send
 returns c =
-    let s = c in
+    let a = c.args in
+    let s = a.residual in
+    let w = a.weight in
     c.send_one-3.ensures
-    ∙ (λ q. more (c.send_one-2.ensures q) (3 * s.args.i + 2) (to_z-of_z w16 s.args.b s.ranges.b q *ℤ pos s.args.weight))
-    ∙ (λ q. more (more (c.send_one.ensures q) (3 * s.args.i + 1)
-    (to_z-of_z w16 s.args.g s.ranges.g q *ℤ pos s.args.weight)) (3 * s.args.i + 2) (s.args.b *ℤ pos s.args.weight))
-    ∙ (λ q. more (more (more s.args.cells.now (3 * s.args.i) (to_z-of_z w16 s.args.r s.ranges.r q *ℤ pos s.args.weight)) (3 * s.args.i + 1)
-    (s.args.g *ℤ pos s.args.weight)) (3 * s.args.i + 2) (s.args.b *ℤ pos s.args.weight))
-
-pub send_one-requires : goal.send_one-requires
-send_one-requires c =
-    let a = c.args in (
-      omega (arith, c.requires.0),
-      rw (to_z-of_z w16 a.r c.ranges.r) c.requires.2.red,
-      red a.cells.now a.i a.weight c.requires.0 c.requires.3,
-    )
+    ∙ (λ q. more (c.send_one-2.ensures q) (3 * a.i + 2) (to_z-of_z w16 s.b (small_fits s.b s.blue) q *ℤ pos w))
+    ∙ (λ q. more (more (c.send_one.ensures q) (3 * a.i + 1) (to_z-of_z w16 s.g (small_fits s.g s.green) q *ℤ pos w)) (3 * a.i + 2) (s.b *ℤ pos w))
+    ∙ (λ q. more (more (more a.cells.now (3 * a.i) (to_z-of_z w16 s.r (small_fits s.r s.red) q *ℤ pos w)) (3 * a.i + 1) (s.g *ℤ pos w)) (3 * a.i + 2) (s.b *ℤ pos w))
 
 pub send_one-requires-2 : goal.send_one-requires-2
 send_one-requires-2 c =
     let a = c.args in
     let first = c.send_one in (
       omega (arith, first.auto.cells, c.requires.0),
-      rw (to_z-of_z w16 a.g c.ranges.g) c.requires.2.green,
-      green a.cells.now a.i a.weight c.requires.0 c.requires.3 _ first.ensures,
+      rw (to_z-of_z w16 a.residual.g (small_fits a.residual.g a.residual.green)) a.residual.green,
+      green a.cells.now a.i a.weight c.requires.0 c.requires.2 _ first.ensures,
     )
 
 pub send_one-requires-3 : goal.send_one-requires-3
@@ -70,6 +62,6 @@ send_one-requires-3 c =
     let first = c.send_one in
     let second = c.send_one-2 in (
       omega (arith, second.auto.cells, first.auto.cells, c.requires.0),
-      rw (to_z-of_z w16 a.b c.ranges.b) c.requires.2.blue,
-      blue a.cells.now a.i a.weight c.requires.0 c.requires.3 _ _ first.ensures second.ensures,
+      rw (to_z-of_z w16 a.residual.b (small_fits a.residual.b a.residual.blue)) a.residual.blue,
+      blue a.cells.now a.i a.weight c.requires.0 c.requires.2 _ _ first.ensures second.ensures,
     )

@@ -1,5 +1,4 @@
 -- `drawing::finish` meets its contract. The invariant: the first i pixels have their full precision form. Assumes nothing.
-use Prim.Native.Nat.{◌-◌}
 use Rattle.lists.proofs.FillLaws.{Filling}
 use Rattle.color.specs.Tables.{normalize_color}
 use Rattle.picture.specs.Pixels.{seen_from}
@@ -8,6 +7,3 @@ use Rattle.drawing.proofs.finish.Given as goal
 
 abbrev pub invariant-loop-i : goal.invariant-loop-i
 invariant-loop-i l = Filling 4 (piece (normalize_color l.scale) (seen_from l.least l.pixels) l.initial.out) l.initial.out l.out l.i
-
-abbrev pub decreases-loop-i : goal.decreases-loop-i
-decreases-loop-i l = l.n - l.i

@@ -1,21 +1,23 @@
--- `flat_nearest` meets its contract: the refusal, or the nearest. Assumes nothing.
+-- `flat_nearest` meets its contract: the refusal, or what is found in the list. Assumes nothing.
+use Rattle.std.proofs.Common.{rules}
 use mathlib.Core.Path.{sym, ◌∙◌}
 use native.Mathlib.Omega.{arith}
-use Rattle.lookup.proofs.ListLaws.{accepted}
-use Rattle.lookup.proofs.AnswerLaws.{nearest_refused, nearest_accepted, in_range_lem}
+use Rattle.replies.proofs.RefusalLaws.{answered_ok}
+use Rattle.shortlist.specs.Candidates.{flat}
+use Rattle.shortlist.specs.Nearest.{nearest_of}
+use Rattle.lookup.specs.Lists.{list_number}
+use Rattle.lookup.proofs.AnswerLaws.{in_range_lem}
 use Rattle.lookup.proofs.flat_nearest.Goals as goal
 
-pub returns-then-refusal-ne0 : goal.returns-then-refusal-ne0
-returns-then-refusal-ne0 c = nearest_refused _ _ _ _ _ c.list_refusal-refusal.ensures c.if-refusal-ne0.true
+pub returns-in_err-list : goal.returns-in_err-list
+unfolding list_number
+returns-in_err-list c = search rules
 
-pub nearest_position-requires : goal.nearest_position-requires
-nearest_position-requires c =
-    let a = c.args in
-    let n = c.list_refusal-refusal in
-    let A = accepted a.reduced.now a.normalized.now a.oklab.now (sym n.ensures ∙ c.if-refusal-ne0.false) in
-    (A.ranged, in_range_lem a.color c.to_oklab-o.result c.to_oklab-o.ensures (omega arith) (omega arith) (omega arith), A.positive)
+pub nearest-requires : goal.nearest-requires
+nearest-requires c = in_range_lem c.args.color c.to_oklab.result c.to_oklab.ensures (omega arith) (omega arith) (omega arith)
 
 pub returns : goal.returns
+unfolding list_number
 returns c =
-    nearest_accepted _ _ _ _ _ c.list_refusal-refusal.ensures c.if-refusal-ne0.false _ _ c.to_oklab-o.ensures
-    c.nearest_position.ensures
+    let l = c.in_ok-list.ensures.list in
+    answered_ok _ _ (sym c.in_ok-list.ensures.number) (c.nearest.ensures ∙ (λ i. nearest_of (flat (l.0 i) (l.1 i) (l.2 i)) (c.to_oklab.ensures i)))

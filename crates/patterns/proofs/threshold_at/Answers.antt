@@ -3,14 +3,5 @@ use Rattle.replies.proofs.AnswerLaws.{answered}
 use Rattle.patterns.proofs.Thresholds.{ordered_answer}
 use Rattle.patterns.proofs.threshold_at.Goals as goal
 
-pub returns-in-At : goal.returns-in-At
-returns-in-At c =
-    let s = c in
-    let e = answered _ _ _ c.ordered_threshold.ensures in
-    cc (c.in-At.is, e, ordered_answer s.args.kind s.args.x s.args.y s.requires)
-
-pub returns-in-Refused : goal.returns-in-Refused
-returns-in-Refused c =
-    let s = c in
-    let e = answered _ _ _ c.ordered_threshold.ensures in
-    cc (c.in-Refused.is, e, ordered_answer s.args.kind s.args.x s.args.y s.requires)
+pub unwrap-requires : goal.unwrap-requires
+unwrap-requires c = rw (answered _ _ _ c.ordered_threshold.ensures, ordered_answer _ _ _ c.requires)

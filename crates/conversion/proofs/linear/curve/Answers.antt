@@ -18,23 +18,5 @@ module _ (k : ℕ) (h : k ≤ 255) where
   fourth : k * (1210000000 + k * (43500000 + k * (345000 - k * (800 - k)))) ≤ 255 * 34736125000
   fourth = let l : 1210000000 + k * (43500000 + k * (345000 - k * (800 - k))) ≤ 34736125000 = omega (arith, third) in mul-le-mul h l
 
-pub overflow_mul-result : goal.overflow_mul-result
-overflow_mul-result c = omega (arith, first c.args.k (omega arith))
-
-pub overflow_sub-result-2 : goal.overflow_sub-result-2
-overflow_sub-result-2 c = omega (arith, first c.args.k (omega arith))
-
-pub overflow_mul-result-2 : goal.overflow_mul-result-2
-overflow_mul-result-2 c = omega (arith, second c.args.k (omega arith))
-
-pub overflow_add-result : goal.overflow_add-result
-overflow_add-result c = omega (arith, second c.args.k (omega arith))
-
-pub overflow_mul-result-3 : goal.overflow_mul-result-3
-overflow_mul-result-3 c = omega (arith, third c.args.k (omega arith))
-
-pub overflow_add-result-2 : goal.overflow_add-result-2
-overflow_add-result-2 c = omega (arith, third c.args.k (omega arith))
-
 pub overflow_mul-result-4 : goal.overflow_mul-result-4
 overflow_mul-result-4 c = omega (arith, fourth c.args.k (omega arith))

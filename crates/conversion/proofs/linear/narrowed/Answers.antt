@@ -1,4 +1,4 @@
--- The answers for `linear::narrowed`: its contract follows from its invariants.
+-- The answers for `linear::narrowed`: its contract follows from its invariant. Assumes nothing.
 use mathlib.Core.Path.{◌≡◌, ap, ◌∙◌}
 use mathlib.Core.List.{[], ◌∷◌}
 use Prim.Native.Nat.{ℕ}
@@ -13,26 +13,11 @@ use Rattle.conversion.proofs.linear.narrowed.Goals as goal
 pub loop-k-init : goal.loop-k-init
 loop-k-init c = fill_begin 1 _ _
 
-pub narrow-requires : goal.narrow-requires
-narrow-requires c = (c.requires, omega arith)
-
-pub offset_bounds-t-k : goal.offset_bounds-t-k
-offset_bounds-t-k c = omega arith
-
-pub bounds-t-k : goal.bounds-t-k
-bounds-t-k c = omega arith
-
-pub overflow_add-k : goal.overflow_add-k
-overflow_add-k c = omega arith
-
-pub loop-k-smaller : goal.loop-k-smaller
-loop-k-smaller c = omega arith
-
 pub loop-k-preserved : goal.loop-k-preserved
-loop-k-preserved c = fill_set c.loop-k.invariant (omega arith) (ap (set c.loop-k.t c.loop-k.k) c.narrow.ensures)
+loop-k-preserved c = fill_set c.loop-k.invariant (omega arith) (ap (set c.loop-k.entries c.loop-k.k) c.narrow.ensures)
 
 pub returns : goal.returns
 returns c =
     let i = c.loop-k.invariant in
     let e : c.loop-k.k ≡ 256 = omega (arith, i.within) in
-    all_values c.loop-k.t (fill_done i (omega arith) ∙ ap (λ (n : ℕ). gather n (λ k. linear_of k ∷ [])) e)
+    all_values c.loop-k.entries (fill_done i (omega arith) ∙ ap (λ (n : ℕ). gather n (λ k. linear_of k ∷ [])) e)

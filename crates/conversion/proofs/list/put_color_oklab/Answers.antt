@@ -11,10 +11,5 @@ use Rattle.conversion.proofs.list.put_color_oklab.Goals as goal
 
 pub returns : goal.returns
 returns c =
-    let p = c in
-    let o = p in
-    let n = o in
-    let r = n in
-    let s = r in
-    let full = n.normalize_color.ensures ∙ ap (λ (x : Rgba8888). normalize_color s.args.scale.now (record { 0 = x })) r.rgba_at.ensures in
-    p.put_oklab.ensures ∙ ap (λ (x : Oklab). sets s.args.oklab.now (3 * s.args.i) (floats_of x)) (o.to_oklab_with-o.ensures ∙ ap to_oklab full)
+    let full = c.normalize_color.ensures ∙ ap (λ (x : Rgba8888). normalize_color c.args.scale.now (record { 0 = x })) c.rgba_at.ensures in
+    c.put_oklab.ensures ∙ ap (λ (x : Oklab). sets c.args.oklab.now (3 * c.args.i) (floats_of x)) (c.to_oklab_with-o.ensures ∙ ap to_oklab full)

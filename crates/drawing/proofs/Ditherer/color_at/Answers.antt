@@ -2,25 +2,14 @@
 use mathlib.Core.Path.{sym, ◌∙◌}
 use mathlib.Core.Bool.{true, false}
 use Rattle.drawing.specs.Drawing.{color_at}
-use Rattle.drawing.proofs.StepLaws.{remembers_as, remembers_of}
+use Rattle.drawing.proofs.StepLaws.{remembers_of}
 use Rattle.drawing.proofs.Ditherer.color_at.Goals as goal
-
-pub ordered_color_at-requires : goal.ordered_color_at-requires
-ordered_color_at-requires c =
-    let p = c.requires in
-    let e = sym c.is_ordered.ensures ∙ c.if-is_ordered.true in
-    (p.0, p.1, p.2, e, remembers_as c.args.self _ _ true e p.3)
 
 pub returns-then-is_ordered : goal.returns-then-is_ordered
 unfolding color_at
 returns-then-is_ordered c =
     let e = sym c.is_ordered.ensures ∙ c.if-is_ordered.true in
     (rw e c.ordered_color_at.ensures.0, remembers_of c.args.self _ _ true e c.ordered_color_at.ensures.1)
-
-pub nearest_color-requires : goal.nearest_color-requires
-nearest_color-requires c =
-    let p = c.requires in
-    (p.0, p.1, remembers_as c.args.self _ _ false (sym c.is_ordered.ensures ∙ c.if-is_ordered.false) p.3)
 
 pub returns : goal.returns
 unfolding color_at

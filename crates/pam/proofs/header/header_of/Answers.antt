@@ -1,21 +1,20 @@
--- `pam::header::header_of` meets its contract. Assumes nothing.
-use mathlib.Core.Path.{sym, ◌∙◌}
-use lib.Seq.{length-take-le}
-use Rattle.pam.specs.Header.{magic}
-use Rattle.pam.proofs.HeadLaws.{no_magic, too_short}
+-- `pam::header::header_of` meets its contract: the magic number, the lines, the values. Assumes nothing.
+use mathlib.Core.Path.{refl}
+use Rattle.pam.proofs.HeadLaws.{magic_told, no_magic, no_lines, header_told}
 use Rattle.pam.proofs.header.header_of.Goals as goal
 
-pub returns-then-file-lt3 : goal.returns-then-file-lt3
-returns-then-file-lt3 c = rw c.no_header.ensures (no_magic _ (too_short _ c.if-file-lt3.true))
+pub returns-in_err-lines : goal.returns-in_err-lines
+returns-in_err-lines c =
+    rw c.from_residual.ensures (no_magic c.args.file.now (magic_told c.args.file.now _ _ refl c.in_err-lines.ensures.cases))
 
-pub slice_bounds-same_text-end : goal.slice_bounds-same_text-end
-slice_bounds-same_text-end c = sym (length-take-le 3 c.args.file.now c.if-file-lt3.false)
-
-pub returns-then-not-same_text : goal.returns-then-not-same_text
-unfolding magic
-returns-then-not-same_text c =
-    rw c.no_header-then-not-same_text.ensures (no_magic _ (sym c.same_text.ensures ∙ c.if-not-same_text.true))
+pub returns-in_err-values : goal.returns-in_err-values
+returns-in_err-values c =
+    let cases = c.in_ok-lines.ensures.cases in
+    rw c.from_residual-in_err-values.ensures
+    (no_lines c.args.file.now (magic_told c.args.file.now _ _ refl cases.0) c.in_ok-lines.lines.now cases.1 c.in_err-values.ensures)
 
 pub returns : goal.returns
-unfolding magic
-returns c = c.header_behind.ensures (sym c.same_text.ensures ∙ c.if-not-same_text.false)
+returns c =
+    let cases = c.in_ok-lines.ensures.cases in
+    header_told c.args.file.now (magic_told c.args.file.now _ _ refl cases.0) c.in_ok-lines.lines.now cases.1 c.in_ok-values.values c.in_ok-values.raster.now
+    c.in_ok-values.ensures c.header_from.result c.header_from.ensures

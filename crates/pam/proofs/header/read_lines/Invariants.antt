@@ -1,11 +1,11 @@
--- `pam::header::read_lines` meets its contract: what is known at its loop is `Reading`. Assumes nothing.
-use Prim.Native.Nat.{◌-◌}
+-- `pam::header::read_lines` meets its contract: what is known at its loop is `SoFar`. Assumes nothing.
 use lib.ListN.{length}
-use Rattle.pam.proofs.ReadingLaws.{Reading}
+use Rattle.pam.specs.Lines.{lines_of}
+use Rattle.pam.proofs.SoFarLaws.{SoFar}
 use Rattle.pam.proofs.header.read_lines.Given as goal
 
-abbrev pub invariant-loop-at : goal.invariant-loop-at
-invariant-loop-at l = Reading l.bytes l.at l.values
+abbrev pub invariant-loop-line : goal.invariant-loop-line
+invariant-loop-line l = SoFar (lines_of l.bytes) (lines_of l.rest) l.values
 
-abbrev pub decreases-loop-at : goal.decreases-loop-at
-decreases-loop-at l = length l.bytes - l.at
+abbrev pub decreases-loop-line : goal.decreases-loop-line
+decreases-loop-line l = length l.rest
