@@ -31,7 +31,7 @@ fn is_color(room: &Room, k: usize, c: ReducedColor) -> bool {
 }
 
 // Whether the tokens from k on are this answer: 0 and what is tested, or the number of a refusal alone. The test holds of
-// a value that is the recorded one.
+// a value that is the recorded one. No public call: the caller sees to it that the test can be called with any value.
 pub fn is_answer<A: Copy, F: FnOnce(A) -> bool + Drop>(
     room: &Room,
     k: usize,
@@ -64,7 +64,7 @@ fn to_oklab(room: &Room) -> bool {
         return false;
     }
     let o = conversion::to_oklab(color_at(room.part(0), 0));
-    room.are_floats(1, &[o.l, o.a, o.b])
+    room.are(1, &[o.l, o.a, o.b])
 }
 
 // d: two Oklab colours | number distance
@@ -181,19 +181,18 @@ fn ordered_bracket(room: &Room, oklab: &[f32]) -> bool {
     is_answer(room, 5, answer, |bracket| is_bracket(room, bracket))
 }
 
-fn look_up(letter: u8, room: &Room) -> bool {
+// Whether a lookup's case is the recorded one, as is tested with the list's Oklab colours.
+fn look_up<F: FnOnce(&[f32]) -> bool + Drop>(room: &Room, test: F) -> bool
+    requires { F.IsAlwaysCallable test }
+{
     let mut floats = [0.0; 1024];
     let Some(oklab) = floats.get_mut(..room.part(2).len() / 4) else {
         return false;
     };
-    if !room.floats(2, oklab) {
+    if !room.read_into(2, oklab) {
         return false;
     }
-    match letter {
-        b'n' => nearest(room, oklab),
-        b'm' => nearest_two(room, oklab),
-        _ => ordered_bracket(room, oklab),
-    }
+    test(oklab)
 }
 
 // Whether our answer to a case is the recorded one.
@@ -206,7 +205,9 @@ pub fn same(letter: u8, room: &Room) -> bool {
         b'w' => bracket_width(room),
         b'l' => lerp(room),
         b'p' => pick(room),
-        b'n' | b'm' | b'b' => look_up(letter, room),
+        b'n' => look_up(room, |oklab| nearest(room, oklab)),
+        b'm' => look_up(room, |oklab| nearest_two(room, oklab)),
+        b'b' => look_up(room, |oklab| ordered_bracket(room, oklab)),
         _ => false,
     }
 }

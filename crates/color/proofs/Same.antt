@@ -1,7 +1,6 @@
--- `same_reduced` is the test for equal colours: two colours pass it exactly if they are equal; and it is what the derived `==` answers (`eq_same`).
--- Assumes nothing.
+-- `same_reduced` is the test for equal colours: two colours pass it exactly if they are equal. Assumes nothing.
 use mathlib.Core.Path.{◌≡◌, refl, sym, subst}
-use mathlib.Core.Bool.{true, ◌&&◌}
+use mathlib.Core.Bool.{true}
 use borrow.Author.Tests.{eq-eqb}
 use lib.Dec.{T, eqb, eqb→eq}
 use lib.Ieee.Fits.{and_l, and_r}
@@ -26,8 +25,3 @@ same_self x = simp (eq-eqb x.0.r _ refl, eq-eqb x.0.g _ refl, eq-eqb x.0.b _ ref
 
 pub equal→same : (x y : ReducedColor) → x ≡ y → same_reduced x y ≡ true
 equal→same x y e = subst (λ (z : ReducedColor). same_reduced x z ≡ true) e (same_self x)
-
--- what `==` answers, as a caller sees it
-pub eq_same : (x y : ReducedColor) → (eqb x.0.r y.0.r && (eqb x.0.g y.0.g && (eqb x.0.b y.0.b && eqb x.0.a y.0.a))) ≡ same_reduced x y
-unfolding same_reduced
-eq_same x y = refl

@@ -123,7 +123,6 @@ pub fn looked_up(table: &[u8; 256], v: u8) -> u8
 }
 
 // All four bytes through the scale table.
-#[tactic(auto, unfolding(crate::specs::Tables::normalize_color))]
 pub fn normalize_color(scale: &[u8; 256], c: ReducedColor) -> NormalizedColor
     ensures { result ≡ normalize_color scale.now c }
 {

@@ -114,6 +114,8 @@ fn diffuse(cells: &mut [i16], spot: Spot, residual: Residual, kernel: &[Target])
 
 // Passes on what is left of a biased colour where another colour is chosen, by the kernel of a kind; a kind that has none
 // sends nothing. No public call: the caller sees to the buffer's length and the room.
+//
+// Kept: the kind is a number, as `drawing::Ditherer`'s, since the definition of what is drawn asks of the number.
 pub fn diffuse_residual(
     kind: u32,
     cells: &mut [i16],

@@ -1,8 +1,9 @@
 -- The picture that is drawn over the candidates is the promised one (`same_picture`); the floats of rooms that hold them are in range (`front_ranged`);
 -- and the drawn bytes can be finished (`finishable`). Assumes nothing.
-use mathlib.Core.Path.{◌≡◌, ◌∙◌, ap}
+use mathlib.Core.Path.{◌≡◌, sym, ◌∙◌, ap}
 use mathlib.Core.List.{List}
 use Prim.Native.Nat.{ℕ, ◌*◌, ◌<◌}
+use native.Mathlib.Omega.{arith}
 use lib.ListN.{length, get_or, take}
 use lib.IntN.{ℤ}
 use lib.Ieee.{Float}
@@ -35,5 +36,5 @@ module _ (q : Commission) {out₀ : List ℕ} {cells₀ : List ℤ} (f : Fitting
   long : length reduced ≡ 4 * size q
   long = ap length e ∙ bytes_length (dithering q)
 
-  pub finishable : Finishable q.pixels (size q) reduced
-  finishable = record { source = f.pixels; long = long }
+  pub finishable : Finishable q.pixels reduced
+  finishable = record { source = f.pixels ∙ sym long; long = omega (arith, long) }

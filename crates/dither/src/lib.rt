@@ -22,6 +22,7 @@ use std::fmt;
 
 // What is asked of a picture: the kind of dithering, the mode's shift and how it reduces, the picture's size and its origin in
 // the source picture, the tiles' sides, how many colours a tile may have, and colour zero.
+// Kept: the kind is a number, as callers give it; the call refuses numbers by 1 and 15.
 #[derive(Clone, Copy, Debug, PartialEq, Eq, Hash)]
 pub struct Settings {
     pub kind: u32,
@@ -75,6 +76,7 @@ impl fmt::Display for DitherError {
 }
 
 // How long each lent buffer is.
+// Kept, lengths without their buffers: the definition of the replies (`checks`) is of them, and stands for cells of floats too.
 #[derive(Clone, Copy, Debug, PartialEq, Eq, Hash)]
 pub struct Lengths {
     pub reduction: usize,
@@ -90,6 +92,7 @@ pub struct Lengths {
 // ---- refusals
 
 // Whether the size is above its bound, or the picture ends too far from the source picture's corner.
+#[tactic(auto, unfolding(crate::specs::Mode::bounds_wrong))]
 fn bounds_wrong(s: Settings) -> bool
     ensures { result ≡ bounds_wrong s }
 {
@@ -98,6 +101,7 @@ fn bounds_wrong(s: Settings) -> bool
 }
 
 // Whether a lent length is wrong. No public call: the caller sees to the size.
+#[tactic(auto, unfolding(crate::specs::Mode::lengths_wrong))]
 fn lengths_wrong(reducing: Reducing, kind: u32, size: usize, s: Lengths) -> bool
     requires { size ≤ 1048576 }
     ensures { result ≡ lengths_wrong reducing kind size s }
@@ -108,6 +112,7 @@ fn lengths_wrong(reducing: Reducing, kind: u32, size: usize, s: Lengths) -> bool
 }
 
 // Whether a tile's side or the limit is outside its bound.
+#[tactic(auto, unfolding(crate::specs::Mode::budget_wrong))]
 fn budget_wrong(s: Settings) -> bool
     ensures { result ≡ budget_wrong s }
 {
@@ -198,8 +203,7 @@ fn dither(s: Settings, lent: &Lent, out: &mut [u8], cells: &mut [i16]) -> Result
         wipe(out, cells);
         return Err(DitherError::TileOver { tile, count });
     }
-    let size = s.width as usize * s.height as usize;
-    drawing::finish(least, scale, pixels, size, out);
+    drawing::finish(least, scale, pixels, out);
     Ok(count)
 }
 

@@ -4,7 +4,9 @@
 use mathlib.Core.Path.{◌≡◌, ◌∙◌, ap}
 use mathlib.Core.Bool.{Bool, true, false, not}
 use mathlib.Core.List.{List}
-use Prim.Native.Nat.{ℕ, ◌*◌, ◌<◌}
+use Prim.Native.Nat.{ℕ, ◌*◌, ◌/◌, ◌<◌}
+use native.Mathlib.Omega.{arith}
+use lib.ListN.{length}
 use borrow.Author.Tests.{not-true}
 use Rattle.lists.proofs.Bools.{or_split}
 use Rattle.lists.proofs.GatherLaws.{gather_same}
@@ -20,7 +22,7 @@ use Rattle.drawing.specs.declared.Ditherer.{Ditherer}
 use Rattle.drawing.specs.Drawing.{Drawing, drawn}
 use Rattle.drawing.specs.Lent.{is_skipped, Lent, drawing_of, reduced_bytes}
 use Rattle.drawing.specs.Finished.{finished, finished_bytes, finished_pixel, finished_picture}
-use Rattle.drawing.proofs.OutputLaws.{bytes_at}
+use Rattle.drawing.proofs.OutputLaws.{bytes_at, bytes_length}
 
 module _ (d : Drawing) where
   finished_all : (chosen : List ℕ) → chosen ≡ reduced_bytes d
@@ -49,9 +51,11 @@ module _ (d : Drawing) where
 -- finished by what the code is lent: the pixels' own alphas say what is seen
 pub finished_lent : (t : Ditherer) (zero : Option ReducedColor) (l : Lent) (least : ℕ) → least ≡ least_alpha l.reducing
     → (chosen : List ℕ) → chosen ≡ reduced_bytes (drawing_of t zero l)
-    → finished_bytes (normalize_color l.scale) (seen_from least l.pixels) (reduced_at chosen) (t.width * t.height) ≡ finished_picture (drawing_of t zero l)
+    → finished_bytes (normalize_color l.scale) (seen_from least l.pixels) (reduced_at chosen) (length chosen / 4) ≡ finished_picture (drawing_of t zero l)
 finished_lent t zero l least is chosen e =
-    ap (λ (seen : ℕ → Bool). finished_bytes (normalize_color l.scale) seen (reduced_at chosen) (t.width * t.height))
+    let counted : length chosen / 4 ≡ t.width * t.height = omega (arith, ap length e ∙ bytes_length (drawing_of t zero l)) in
+    ap (finished_bytes (normalize_color l.scale) (seen_from least l.pixels) (reduced_at chosen)) counted
+    ∙ ap (λ (seen : ℕ → Bool). finished_bytes (normalize_color l.scale) seen (reduced_at chosen) (t.width * t.height))
     (ap (λ (n : ℕ). seen_from n l.pixels) is ∙ seen_from_lem l.reducing l.reduction l.pixels l.opaque)
     ∙ finished_all (drawing_of t zero l) chosen e
 

@@ -5,7 +5,7 @@ use mathlib.Core.Bool.{Bool, true, false, true≢false}
 use borrow.Author.Tests.{not-true, not-false}
 use lib.ListN.{length}
 use mathlib.Core.List.{List}
-use Prim.Native.Nat.{ℕ, ◌+◌, ◌*◌, ◌/◌, ◌%◌, ◌≤◌, ◌<◌}
+use Prim.Native.Nat.{ℕ, ◌+◌, ◌*◌, ◌/◌, ◌%◌, ◌<◌}
 use native.Mathlib.Nat.{div-add-mod'}
 use native.Mathlib.Omega.{arith}
 use lib.Dec.{T}
@@ -31,7 +31,6 @@ use Rattle.lookup.specs.declared.Bracket.{Bracket}
 use Rattle.lookup.specs.declared.Choice.{Choice}
 use Rattle.lookup.specs.Bracket.{bracket_at_of, colored, choice_at}
 use Rattle.lookup.specs.Positions.{Takes}
-use Rattle.lookup.proofs.BracketLaws.{bracket_inside}
 use Rattle.lookup.proofs.PositionLaws.{nearest_taken, picked_taken}
 use Rattle.diffusion.specs.Biased.{biased_color}
 use Rattle.diffusion.specs.Scatter.{sends}
@@ -87,13 +86,6 @@ remembers_none t cs memory table rows = go (is_ordered t.kind)
     go false = table _
 
 module _ (cs : Candidates) (width : ℕ) (c : NormalizedColor) (at : BracketAt) (made : at ≡ bracket_at_of cs width (to_oklab c) c) where
-  -- the positions are entries of a list that holds the candidates
-  pub bracket_entries : 0 < cs.count → ((k : ℕ) → k < cs.count → T (all_in_range (cs.oklab k)))
-      → (m : ℕ) → 4 * cs.count ≤ m → (4 * at.dark + 3 < m) × (4 * at.light + 3 < m)
-  bracket_entries some range m room =
-      let inside = bracket_inside cs width (to_oklab c) c some range in
-      subst (λ (b : BracketAt). (4 * b.dark + 3 < m) × (4 * b.light + 3 < m)) (sym made) (omega (arith, inside.0), omega (arith, inside.1))
-
   pub ordered_is : 0 < cs.count → ((k : ℕ) → k < cs.count → T (all_in_range (cs.oklab k)))
       → (kind x y x' y' : ℕ) (bracket : Bracket) (threshold : Float) (r : Choice) → bracket ≡ colored cs.reduced at
       → x ≡ x' → y ≡ y' → threshold ≡ threshold_at kind x y → r ≡ choice_at bracket threshold → Takes cs (ordered_color cs kind width x' y' c) r

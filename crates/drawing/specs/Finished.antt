@@ -1,7 +1,7 @@
 -- A drawn picture at full precision: what becomes of a pixel that chose. Definitions only.
 -- Written from document 01, "Which document decides" ("Normalising sends all four bytes through the scale table"), and "Choosing colours"
 -- ("Transparent pixels get index 0 and `TRANSPARENT`").
-use Rattle.std.specs.Prelude.{ℕ, ◌*◌, ◌≡◌, Bool, cond, List, length}
+use Rattle.std.specs.Prelude.{ℕ, ◌*◌, ◌/◌, ◌≡◌, Bool, cond, List, length}
 use Rattle.lists.specs.Gather.{gather}
 use Rattle.color.specs.declared.NormalizedColor.{NormalizedColor}
 use Rattle.color.specs.declared.ReducedColor.{ReducedColor}
@@ -27,7 +27,7 @@ finished_pixel d i = finished_at d.normalize (is_seen d.reduced) (drawn d) i
 abbrev pub finished_picture : Drawing → List ℕ
 finished_picture d = finished_bytes d.normalize (is_seen d.reduced) (drawn d) (d.width * d.height)
 
--- what the code needs to finish n pixels, whose reduced choices are lent
-pub record Finishable (pixels : List ℕ) (n : ℕ) (chosen : List ℕ) : Type 0 where
-  pub source : length pixels ≡ 4 * n
-  pub long : length chosen ≡ 4 * n
+-- what the code needs to finish pixels, whose reduced choices are lent: four bytes of each a pixel
+pub record Finishable (pixels : List ℕ) (chosen : List ℕ) : Type 0 where
+  pub source : length pixels ≡ length chosen
+  pub long : length chosen ≡ 4 * (length chosen / 4)

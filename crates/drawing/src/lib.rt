@@ -108,6 +108,9 @@ impl Ditherer {
     }
 
     // ---- one colour
+    // Kept, the candidates, the pixel, its colour and the memory one by one in these three: a struct of them would hold the
+    // `&mut Memory`, and its clauses speak of loans. Kept, `Inside` in the clauses: it relates the picture and a pixel, and no one
+    // of the two holds the other.
 
     // What is picked of the colour's bracket at pixel i. No public call: the caller sees to a candidate, the pixel, the kind and
     // the memory.
@@ -125,8 +128,7 @@ impl Ditherer {
             × TableAndRows cs self.bracket_width memory.new }
     {
         let at = candidates.bracket_positions(self.bracket_width, color, memory);
-        let colors = candidates.colors;
-        let bracket = lookup::brackets::bracket_at(colors, at);
+        let bracket = lookup::brackets::bracket_at(candidates, at);
         let x = self.source_column(i);
         let y = self.source_row(i);
         lookup::pick_at(bracket, patterns::threshold_at(self.kind, x, y))
@@ -217,6 +219,8 @@ impl Ditherer {
     }
 
     // ---- the whole picture
+    // Kept, three buffers in both: a struct of them would hold `&mut` slices, and its clauses speak of loans; both calls are lent
+    // them one by one.
 
     // Draws under a kind that diffuses error or one that does not: the kind is asked once, and not at each pixel. No public
     // call: the caller sees to what is lent, the kind and the cells.
@@ -281,15 +285,16 @@ fn finished_color(scale: &[u8; 256], seen: bool, c: ReducedColor) -> NormalizedC
     NormalizedColor::TRANSPARENT
 }
 
-// Finishes n pixels, whose reduced choices are lent: each choice's full precision form takes its place. No public call: the
+// Finishes the pixels whose reduced choices are lent: each choice's full precision form takes its place. No public call: the
 // caller sees to the lengths.
-// Kept: what it reads comes apart, and not as a `Lent`, which has one least alpha alone; the promise is of any.
-pub fn finish(least: u8, scale: &[u8; 256], pixels: &[u8], n: usize, out: &mut [u8])
-    requires { Finishable pixels.now n out.old }
+// Kept: what it reads comes apart, and not as a `Lent`, which has one least alpha alone; the promise is of any, and so the least
+// and the pixels are two parameters.
+pub fn finish(least: u8, scale: &[u8; 256], pixels: &[u8], out: &mut [u8])
+    requires { Finishable pixels.now out.old }
     ensures { let seen = seen_from least pixels.now in
-        out.new ≡ finished_bytes (normalize_color scale.now) seen (reduced_at out.old) n }
+        out.new ≡ finished_bytes (normalize_color scale.now) seen (reduced_at out.old) (length out.old / 4) }
 {
-    for i in 0..n {
+    for i in 0..out.len() / 4 {
         let chosen = ReducedColor(color::rgba_at(out, i));
         let seen = picture::is_seen(least, pixels, i);
         let c = finished_color(scale, seen, chosen);

@@ -74,6 +74,14 @@ impl Drawn<'_> {
             chosen: self.out.get(byte).copied().unwrap_or(0),
         }
     }
+
+    // Channel k of the second pixel; none where that is transparent, and so is skipped.
+    fn second(&self, k: u8) -> Option<Sample> {
+        match self.pixels.get(7) {
+            Some(255) => Some(self.sample(1, k)),
+            _ => None,
+        }
+    }
 }
 
 // The sum of two bytes, in sixteenths.
@@ -109,47 +117,50 @@ fn share(weight: u16, s: Sample) -> i64 {
 
 // ---- the account
 
-// Both pixels are dithered: the second sends all that it does not hold back past the edges.
-fn of_two(shares: Shares, a: Sample, b: Sample) -> [i64; 7] {
-    let sources = sixteen(a.source, b.source);
-    [
-        sum(sources, sixteen(a.chosen, b.chosen), 0, 0),
-        sum(sources, sixteen(biased(a), biased(b)), a.cell, b.cell),
-        0,
-        share(u16::from(shares.others), a),
-        share(u16::from(shares.right) + u16::from(shares.others), b),
-        share(u16::from(shares.held), a),
-        share(u16::from(shares.held), b),
-    ]
-}
+impl Shares {
+    // Both pixels are dithered: the second sends all that it does not hold back past the edges.
+    fn of_two(self, a: Sample, b: Sample) -> [i64; 7] {
+        let sources = sixteen(a.source, b.source);
+        [
+            sum(sources, sixteen(a.chosen, b.chosen), 0, 0),
+            sum(sources, sixteen(biased(a), biased(b)), a.cell, b.cell),
+            0,
+            share(u16::from(self.others), a),
+            share(u16::from(self.right) + u16::from(self.others), b),
+            share(u16::from(self.held), a),
+            share(u16::from(self.held), b),
+        ]
+    }
 
-// The second is skipped: what reached it is what its cell holds.
-fn of_one(shares: Shares, a: Sample, b: Sample) -> [i64; 7] {
-    let source = sixteen(a.source, 0);
-    [
-        sum(source, sixteen(a.chosen, 0), 0, 0),
-        sum(source, sixteen(biased(a), 0), a.cell, 0),
-        i64::from(b.cell),
-        share(u16::from(shares.others), a),
-        0,
-        share(u16::from(shares.held), a),
-        0,
-    ]
-}
+    // The second is skipped: what reached it is what its cell holds.
+    fn of_one(self, a: Sample, reached: i16) -> [i64; 7] {
+        let source = sixteen(a.source, 0);
+        [
+            sum(source, sixteen(a.chosen, 0), 0, 0),
+            sum(source, sixteen(biased(a), 0), a.cell, 0),
+            i64::from(reached),
+            share(u16::from(self.others), a),
+            0,
+            share(u16::from(self.held), a),
+            0,
+        ]
+    }
 
-// Whether a channel has the account that is said, it balances, and the second cell holds the first pixel's share.
-fn channel_is(shares: Shares, a: Sample, b: Sample, both: bool, said: Account) -> bool {
-    let terms = if both {
-        of_two(shares, a, b)
-    } else {
-        of_one(shares, a, b)
-    };
-    i64::from(b.cell) == share(u16::from(shares.right), a)
-        && said.balances()
-        && terms == said.terms()
-}
+    // Whether channel k has the account that is said, it balances, and the second cell holds the first pixel's share.
+    fn channel_is(self, drawn: Drawn, k: u8, said: Account) -> bool {
+        let a = drawn.sample(0, k);
+        let reached = drawn.sample(1, k).cell;
+        let terms = match drawn.second(k) {
+            Some(b) => self.of_two(a, b),
+            None => self.of_one(a, reached),
+        };
+        i64::from(reached) == share(u16::from(self.right), a)
+            && said.balances()
+            && terms == said.terms()
+    }
 
-// Whether each channel has the account that is said. The second pixel is dithered where `both` says so.
-pub fn are_said(shares: Shares, drawn: Drawn, both: bool, said: Account) -> bool {
-    (0..3u8).all(|k| channel_is(shares, drawn.sample(0, k), drawn.sample(1, k), both, said))
+    // Whether each channel has the account that is said.
+    pub fn are_said(self, drawn: Drawn, said: Account) -> bool {
+        (0..3u8).all(|k| self.channel_is(drawn, k, said))
+    }
 }

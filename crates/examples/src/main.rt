@@ -19,7 +19,7 @@ fn e1() -> bool {
         .all(|&(shift, max, width)| mixing::bracket_width(shift, max) == Ok(width))
 }
 
-// ---- E2: thresholds
+// ---- E2: thresholds. Kept: the kinds by their numbers, as the call takes them.
 
 fn e2() -> bool {
     [

@@ -1,7 +1,6 @@
 // The examples that are whole calls: E7 to E9 and E11's palettes by `quantize_pixels`, E10 and E11's tile side by
 // `dither_to_mode`, all by alpha; and our own, greys by `candidate_colors_in`. What a call is to write is lent with other
 // contents.
-use crate::account;
 use crate::account::{Account, Drawn, Shares};
 use dither::{DitherError, Settings};
 use reducing::Reducing;
@@ -15,6 +14,7 @@ fn identity() -> [u8; 256] {
 // ---- E7 to E9: two pixels in a row with the sources 80 and 0, and a palette of black alone
 
 // A kind with a kernel, by its number, and how that shares in a row of two.
+// Kept: the kind by its number, as the call takes it.
 #[derive(Clone, Copy)]
 struct Kernel {
     kind: u32,
@@ -70,7 +70,7 @@ fn pair_is(kernel: Kernel, alpha: u8, said: Account) -> bool {
     answer.is_ok()
         && indices == [0, 0]
         && out == [0, 0, 0, 255, 0, 0, 0, alpha]
-        && account::are_said(kernel.shares, drawn, alpha == 255, said)
+        && kernel.shares.are_said(drawn, said)
 }
 
 // 1280 = 0 + 0 + (720 + 560)

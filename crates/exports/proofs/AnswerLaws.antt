@@ -11,7 +11,9 @@ use Rattle.replies.proofs.RefusalLaws.{number_some}
 use Rattle.color.specs.declared.Rgba8888.{Rgba8888}
 use Rattle.color.specs.declared.NormalizedColor.{NormalizedColor}
 use Rattle.color.specs.Color.{rgba}
+use Rattle.pam.specs.declared.Size.{Size}
 use Rattle.exports.specs.Answers.{opaque_rgb, left}
+use Rattle.exports.specs.Files.{size_left}
 
 -- what is left of the answer x, where that is the case y
 pub left_by : {A B : Type 0} (left : A → B) {x y : A} → x ≡ y → left y ≡ left x
@@ -37,6 +39,18 @@ left_after {replies = replies} {value = value} was {r = Ok x} a =
     (λ i. (0, e i)) ∙ ap (λ (n : ℕ). (n, after n value was)) n
 left_after {replies = replies} {value = value} was {r = Err e} a =
     (λ i. (number e, after_some (number e) value was (number_some e) i)) ∙ ap (λ (n : ℕ). (n, after n value was)) a.number
+
+-- what is left of an answer that is a size, by the call's promise
+pub size_after : {replies : List Reply} {value : Size} (width height : ℕ) {r : Result Size Refusal} → Answered replies value r → size_left width height r
+    ≡ (first_reply replies, after (first_reply replies) value.width width, after (first_reply replies) value.height height)
+size_after {replies = replies} {value = value} width height {r = Ok x} a =
+    let n : 0 ≡ first_reply replies = a.number in
+    let s : Ok x ≡ Ok value = a.answer in
+    let e : x ≡ value = cc in
+    (λ i. (0, (e i).width, (e i).height)) ∙ ap (λ (n : ℕ). (n, after n value.width width, after n value.height height)) n
+size_after {replies = replies} {value = value} width height {r = Err e} a =
+    (λ i. (number e, after_some (number e) value.width width (number_some e) i, after_some (number e) value.height height (number_some e) i))
+    ∙ ap (λ (n : ℕ). (n, after n value.width width, after n value.height height)) a.number
 
 -- each number of the replies is a refusal's: of replies that are written out, a nested pair of a fact for each
 abbrev pub Named : {A : Type 0} → A → List Reply → Type 0

@@ -1,17 +1,13 @@
 -- The lookups and `pick` through the C interface: positions are below 65,536, so that they fit a u32; what is refused for a length that is not 4, and
 -- that the flat calls' answers hold where all are; and that the number of a bracket is the lowest that applies, of `pick` the first. Assumes nothing.
 use mathlib.Core.Path.{◌≡◌, refl, sym, ◌∙◌, subst}
-use mathlib.Core.List.{List, [], ◌∷◌}
+use mathlib.Core.List.{List}
 use mathlib.Core.Bool.{Bool, true, false, not, ◌&&◌}
 use Prim.Native.Nat.{ℕ, ◌/◌, ◌<◌}
 use native.Mathlib.Omega.{arith}
-use borrow.Author.Tests.{eqb-true, not-false}
-use lib.Dec.{eqb}
 use lib.ListN.{length}
-use lib.Seq.{sets}
 use lib.Ieee.{Float}
 use Rattle.std.specs.Prelude.{Option, Some, None, Result, Ok, Err, unwrap_or}
-use Rattle.lists.proofs.Bools.{and_split}
 use Rattle.replies.specs.Replies.{first_reply, FirstReply, Lowest}
 use Rattle.replies.specs.Refusals.{answer, number_of}
 use Rattle.replies.specs.declared.Refusal.{Refusal}
@@ -19,10 +15,9 @@ use Rattle.replies.specs.declared.Refusal.TheVariants as refusal
 use Rattle.replies.proofs.AnswerLaws.{answered}
 use Rattle.replies.proofs.ReplyLaws.{reply_is}
 use Rattle.replies.proofs.LowestLaws.{lowest_is}
-use Rattle.color.specs.declared.Rgba8888.{Rgba8888}
 use Rattle.color.specs.declared.NormalizedColor.{NormalizedColor}
 use Rattle.color.specs.declared.ReducedColor.{ReducedColor}
-use Rattle.color.specs.Color.{rgba, reduced_at, bytes_of}
+use Rattle.color.specs.Color.{rgba, reduced_at}
 use Rattle.color.specs.Oklab.{oklab_at}
 use Rattle.conversion.specs.Oklab.{to_oklab}
 use Rattle.patterns.specs.Kinds.{is_kind, is_retired}
@@ -97,26 +92,6 @@ module _ (reduced normalized : List ℕ) (oklab : List Float) (r g b : ℕ) (col
     pub bracket_rgb_lem : {x y : Result Bracket Refusal} → FlatBracket reduced normalized oklab color width x → x ≡ y
         → answer (bracket_of cs width (to_oklab (opaque_rgb r g b)) (opaque_rgb r g b)) number ≡ y
     bracket_rgb_lem a q = of_rgb (λ (u : NormalizedColor). answer (bracket_of cs width (to_oklab u) u) number) color r g b c (answered _ _ _ a) q
-
--- ---- four bytes
--- a colour in four bytes fills them
-pub all_four : (bytes : List ℕ) (c : Rgba8888) → length bytes ≡ 4 → sets bytes 0 (bytes_of c) ≡ bytes_of c
-all_four [] c e = absurd (omega arith)
-all_four (p ∷ []) c e = absurd (omega arith)
-all_four (p ∷ q ∷ []) c e = absurd (omega arith)
-all_four (p ∷ q ∷ r ∷ []) c e = absurd (omega arith)
-all_four (p ∷ q ∷ r ∷ s ∷ []) c e = refl
-all_four (p ∷ q ∷ r ∷ s ∷ t ∷ bytes) c e = absurd (omega arith)
-
--- what the tests of lengths say
-pub both_four : (m n : ℕ) → not (eqb m 4 && eqb n 4) ≡ false → (m ≡ 4) × (n ≡ 4)
-both_four m n e = let a = and_split (eqb m 4) (eqb n 4) (not-false (eqb m 4 && eqb n 4) e) in (eqb-true m 4 a.0, eqb-true n 4 a.1)
-
-pub all_three_four : (m n k : ℕ) → not (eqb m 4 && (eqb n 4 && eqb k 4)) ≡ false → (m ≡ 4) × (n ≡ 4) × (k ≡ 4)
-all_three_four m n k e =
-    let a = and_split (eqb m 4) (eqb n 4 && eqb k 4) (not-false (eqb m 4 && (eqb n 4 && eqb k 4)) e) in
-    let b = and_split (eqb n 4) (eqb k 4) a.1 in
-    (eqb-true m 4 a.0, eqb-true n 4 b.0, eqb-true k 4 b.1)
 
 -- ---- the bracket
 module _ (reduced normalized : List ℕ) (oklab : List Float) (r g b width : ℕ) (dark light : List ℕ) where

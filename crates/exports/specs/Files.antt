@@ -2,10 +2,18 @@
 -- acceptance, and otherwise what was there; the number is that of the first reply that applies, in document 02's order. The result is the definition that
 -- has the call's name, and that it is so is the call's promise. Definitions only.
 -- Written from document 02, Ask 1, and document 01, "Bounds and replies": "all unchanged".
-use Rattle.std.specs.Prelude.{◌≡◌, ℕ, List}
+use Rattle.std.specs.Prelude.{◌≡◌, ℕ, List, Result, Ok, Err}
+use Rattle.replies.specs.declared.Refusal.{Refusal}
 use Rattle.replies.specs.Replies.{first_reply, after}
+use Rattle.replies.specs.Refusals.{number}
+use Rattle.pam.specs.declared.Size.{Size}
 use Rattle.pam.specs.Header.{width_of, height_of}
 use Rattle.pam.specs.Pam.{pixels_of, pam_of, pam_length, size_replies, read_replies, length_replies, write_replies}
+
+-- ---- what is left of an answer that is a size, behind pointers that held `width` and `height`
+abbrev pub size_left : (width height : ℕ) → Result Size Refusal → ℕ × ℕ × ℕ
+size_left width height (Ok size) = (0, size.width, size.height)
+size_left width height (Err e) = (number e, width, height)
 
 -- ---- `badge_pam_size`: the number, and the picture's size, behind pointers that held `width` and `height`
 abbrev pub badge_pam_size : List ℕ → (width height : ℕ) → ℕ × ℕ × ℕ

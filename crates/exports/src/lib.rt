@@ -4,10 +4,11 @@
 #![tactic(auto)]
 
 ghost use Rattle.std.specs.Prelude.{◌≡◌, length};
+ghost use Rattle.replies.specs.Refusals.{number_of};
 ghost use Rattle.color.specs.Color.{reduced_at, bytes_of};
 ghost use Rattle.dither.specs.Mode as mode;
 ghost use Rattle.exports.specs.Answers.{left, PromisedToOklab, PromisedOklabSqdist, PromisedOrderedThreshold, PromisedBracketWidth, PromisedLerp};
-ghost use Rattle.exports.specs.Files.{PromisedPamSize, PromisedReadPam, PromisedPamLength, PromisedWritePam};
+ghost use Rattle.exports.specs.Files.{size_left, PromisedPamSize, PromisedReadPam, PromisedPamLength, PromisedWritePam};
 ghost use Rattle.exports.specs.Lookups.{PromisedNearest, PromisedNearestTwo, PromisedOrderedBracket, PromisedPick};
 ghost use Rattle.exports.specs.Pictures.{lent_to, asked, drawn_by, PromisedCandidateColorsIn, PromisedQuantizePixels, zero_of, settings_of, PromisedDitherToMode};
 
@@ -25,6 +26,30 @@ fn handed<T: Copy>(answer: Result<T, Refusal>, out: &mut T) -> u32
     match answer {
         Ok(value) => {
             *out = value;
+            0
+        }
+        Err(refusal) => u32::from(refusal),
+    }
+}
+
+// The number of an answer that has no value.
+fn replied(answer: Result<(), Refusal>) -> u32
+    ensures { result ≡ number_of answer }
+{
+    match answer {
+        Ok(()) => 0,
+        Err(refusal) => u32::from(refusal),
+    }
+}
+
+// Hands a size over, as `handed` does a value.
+fn handed_size(answer: Result<Size, Refusal>, width: &mut u32, height: &mut u32) -> u32
+    ensures { (result, width.new, height.new) ≡ size_left width.old height.old answer }
+{
+    match answer {
+        Ok(size) => {
+            *width = size.width;
+            *height = size.height;
             0
         }
         Err(refusal) => u32::from(refusal),
@@ -170,6 +195,7 @@ pub extern "C" fn badge_nearest_two(
 }
 
 // The colour that four bytes are. No public call: the caller sees to the length.
+// Kept: a slice and a test of its length, here and in what follows. In the C interface a slice is a pointer and a length.
 fn color_in(bytes: &[u8]) -> ReducedColor
     requires { length bytes.now ≡ 4 }
     ensures { result ≡ reduced_at bytes.now 0 }
@@ -317,13 +343,10 @@ pub extern "C" fn badge_quantize_pixels(
     let Ok(by) = Reducing::try_from(reducing) else {
         return u32::from(Refusal::KindOrShift);
     };
-    match quantize::quantize_pixels(
+    replied(quantize::quantize_pixels(
         shift, by, kind, width, height, reduction, scale, palette, pixels, opaque, indices, out,
         cells,
-    ) {
-        Ok(()) => 0,
-        Err(refusal) => u32::from(refusal),
-    }
+    ))
 }
 
 // Colour zero as the flag and the bytes have it.
@@ -412,19 +435,7 @@ pub extern "C" fn badge_dither_to_mode<'a>(
 pub extern "C" fn badge_pam_size(file: &[u8], width: &mut u32, height: &mut u32) -> u32
     ensures { PromisedPamSize file.now width.old height.old (result, width.new, height.new) }
 {
-    match pam::pam_size(file) {
-        Ok(
-            Size {
-                width: columns,
-                height: rows,
-            },
-        ) => {
-            *width = columns;
-            *height = rows;
-            0
-        }
-        Err(refusal) => u32::from(refusal),
-    }
+    handed_size(pam::pam_size(file), width, height)
 }
 
 // A file's pixels, and the width and height of its picture; 10, 2, 11 and 3.
@@ -438,14 +449,7 @@ pub extern "C" fn badge_read_pam(
     ensures { PromisedReadPam file.now pixels.old width.old height.old
         (result, pixels.new, width.new, height.new) }
 {
-    match pam::read_pam(file, pixels) {
-        Ok(size) => {
-            *width = size.width;
-            *height = size.height;
-            0
-        }
-        Err(refusal) => u32::from(refusal),
-    }
+    handed_size(pam::read_pam(file, pixels), width, height)
 }
 
 // How many bytes a picture's file takes; 10 and 2.
@@ -461,8 +465,5 @@ pub extern "C" fn badge_pam_length(width: u32, height: u32, length: &mut u64) ->
 pub extern "C" fn badge_write_pam(width: u32, height: u32, pixels: &[u8], file: &mut [u8]) -> u32
     ensures { PromisedWritePam width height pixels.now file.old (result, file.new) }
 {
-    match pam::write_pam(width, height, pixels, file) {
-        Ok(()) => 0,
-        Err(refusal) => u32::from(refusal),
-    }
+    replied(pam::write_pam(width, height, pixels, file))
 }

@@ -19,6 +19,7 @@ fn key_of(color: ReducedColor) -> u32
 
 // Kept as numbers, which are compared several at a time; four bytes of a colour are not, and took more by a third. There is one
 // place more than the largest limit: the colour that overfills a tile has a place too.
+// Kept, an array and a count: there is no heap.
 #[derive(Drop)]
 pub struct TileColors {
     keys: [u32; 257],

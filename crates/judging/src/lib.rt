@@ -62,6 +62,7 @@ fn add_pixel(chosen: &[u8], least: u8, pixels: &[u8], i: usize, colors: &mut Til
 // Judges the chosen reduced colours of a picture, four bytes a pixel, against the tile limit: the number of the first tile that
 // is over it, if one is. `pixels` is the source, whose alphas say what is transparent: those below the least. No public call: the
 // caller sees to the lengths.
+// Kept, the least beside the pixels: two parameters, of any least, as in `drawing::finish`.
 // Kept, four loops in one function, as document 01 names it: tile rows, tiles, rows and pixels, left by a label with the tile's
 // number at the first pixel that overfills its tile.
 pub fn judge(chosen: &[u8], least: u8, pixels: &[u8], tiling: Tiling) -> Option<u32>

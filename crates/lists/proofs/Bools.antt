@@ -8,6 +8,7 @@ use lib.Dec.{T, eqb}
 pub clash : {t : Bool} → t ≡ true → t ≡ false → ⊥
 clash p q = true≢false (sym p ∙ q)
 
+-- Kept: of the library's `T_from_true` and `T_from_false` each names the test, which is read off the equation here.
 pub holds : {t : Bool} → t ≡ true → T t
 holds e = subst T (sym e) tt
 

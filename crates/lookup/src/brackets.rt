@@ -1,10 +1,9 @@
 // The bracket: the nearest entry and the second, the darker first, and the share of the lighter.
-ghost use Rattle.std.specs.Prelude.{◌≡◌, ℕ, ◌+◌, ◌*◌, ◌<◌, length};
-ghost use Rattle.color.specs.Color.{reduced_at};
+ghost use Rattle.std.specs.Prelude.{◌≡◌, ℕ, ◌<◌};
 ghost use Rattle.lookup.specs.Bracket.{bracket_with, bracket_two, colored};
 
 use super::{Bracket, BracketAt, Entries, Two};
-use color::{NormalizedColor, ReducedColor, rgba_at};
+use color::NormalizedColor;
 use mixing::lerp;
 
 // The bracket of entries a and b. No public call: the caller sees to the positions.
@@ -41,13 +40,14 @@ pub fn bracket_of_two<E: Entries>(entries: &E, two: Two, color: NormalizedColor)
 }
 
 // The bracket with its reduced colours. No public call: the caller sees to the positions.
-pub fn bracket_at(colors: &[u8], at: BracketAt) -> Bracket
-    requires { (4 * at.dark + 3 < length colors.now) × (4 * at.light + 3 < length colors.now) }
-    ensures { result ≡ colored (reduced_at colors.now) at }
+#[tactic(auto, unfolding(crate::specs::Bracket::colored))]
+pub fn bracket_at<E: Entries>(entries: &E, at: BracketAt) -> Bracket
+    requires { (at.dark < (E.listed entries.now).count) × (at.light < (E.listed entries.now).count) }
+    ensures { result ≡ colored (E.listed entries.now).reduced at }
 {
     Bracket {
-        dark: ReducedColor(rgba_at(colors, at.dark)),
-        light: ReducedColor(rgba_at(colors, at.light)),
+        dark: entries.reduced_at(at.dark),
+        light: entries.reduced_at(at.light),
         ratio: at.ratio,
         dark_position: at.dark,
         light_position: at.light,

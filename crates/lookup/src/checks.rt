@@ -8,6 +8,7 @@ use color::in_range;
 use replies::Refusal;
 
 // Four bytes an entry in both lists of bytes, three floats an entry.
+#[tactic(auto, unfolding(crate::specs::Lists::lengths_fit))]
 fn lengths_fit(reduced: usize, normalized: usize, oklab: usize) -> bool
     ensures { result ≡ lengths_fit reduced normalized oklab }
 {

@@ -12,7 +12,7 @@ use super::brackets::{bracket_at, bracket_of_two};
 use super::checks::list_refusal;
 use super::seconds::second_of;
 use super::{Bracket, Entries, Two};
-use color::{NormalizedColor, Oklab, oklab_at, rgba_at};
+use color::{NormalizedColor, Oklab, ReducedColor, oklab_at, rgba_at};
 use replies::Refusal;
 use shortlist::Shortlist;
 use shortlist::near::nearest_position;
@@ -29,6 +29,10 @@ pub struct Flat<'a> {
 impl<'a> Entries for Flat<'a> {
     ghost listed = { λ list. flat list.reduced.now list.normalized.now list.oklab.now };
 
+    fn reduced_at(&self, k: usize) -> ReducedColor {
+        ReducedColor(rgba_at(self.reduced, k))
+    }
+
     fn normal_at(&self, k: usize) -> NormalizedColor {
         NormalizedColor(rgba_at(self.normalized, k))
     }
@@ -38,6 +42,8 @@ impl<'a> Entries for Flat<'a> {
     }
 }
 
+// Kept: the range of o in the contracts, and o beside the colour that it is of. A colour is converted once and before a lookup,
+// so that the two largest frames do not stand in each other: a lookup takes 1 KiB of the stack at most.
 impl<'a> Flat<'a> {
     // The list of these, or why it is refused.
     pub fn new(
@@ -73,6 +79,8 @@ impl<'a> Flat<'a> {
     }
 
     // The nearest two. No public call: the caller sees to the range.
+    // Kept: alike in `Records` and in crate `remembered`. The shortlist comes otherwise in each: of slices, of records, out of a
+    // memory that is lent; a trait over the three would need a method for it with a parameter more, and be no plainer.
     pub fn two(&self, width: u64, o: Oklab, color: NormalizedColor) -> Two
         requires { T (all_in_range o) }
         ensures { result ≡ nearest_two_of (flat self.now.reduced.now self.now.normalized.now self.now.oklab.now) width o color }
@@ -92,6 +100,6 @@ impl<'a> Flat<'a> {
         ensures { result ≡ bracket_of (flat self.now.reduced.now self.now.normalized.now self.now.oklab.now) width o color }
     {
         let at = bracket_of_two(self, self.two(width, o, color), color);
-        bracket_at(self.reduced, at)
+        bracket_at(self, at)
     }
 }

@@ -1,6 +1,6 @@
 // Choosing colours: the nearest candidate, the nearest two, the ordered bracket and what is picked of it, over flat lists of
-// candidates. `pick` has the name that src/dither.rs gives it; the calls over flat lists are the base of the lookups over
-// records, which are in crate `records` and have its names. The functions of the modules answer positions.
+// candidates. `pick` has the name that src/dither.rs gives it; the lookups over records, which have its other names, are in crate
+// `records`. Both kinds of list are `Entries`, of which `seconds` makes the second and `brackets` the bracket.
 #![tactic(auto)]
 
 pub mod brackets;
@@ -26,6 +26,11 @@ pub trait Entries {
     // the list, as the definitions ask it
     ghost listed: { Self → Candidates };
 
+    // Entry k's reduced colour.
+    fn reduced_at(&self, k: usize) -> ReducedColor
+        requires { k < (listed self.now).count }
+        ensures { result ≡ (listed self.now).reduced k };
+
     // Entry k's normalised colour.
     fn normal_at(&self, k: usize) -> NormalizedColor
         requires { k < (listed self.now).count }
@@ -38,6 +43,7 @@ pub trait Entries {
 }
 
 // From 1 to 65,536 entries: what a lookup takes.
+#[tactic(auto, unfolding(crate::specs::Lists::count_fits))]
 pub fn count_fits(count: usize) -> bool
     ensures { result ≡ count_fits count }
 {
@@ -63,7 +69,7 @@ pub struct BracketAt {
 
 impl BracketAt {
     // One entry alone.
-    pub fn solid(a: usize) -> Self
+    pub(crate) fn solid(a: usize) -> Self
         ensures { result ≡ solid_at a }
     {
         BracketAt {
@@ -114,6 +120,7 @@ pub fn pick_at(bracket: Bracket, threshold: f32) -> Choice
 
 // The colour for column x and row y, and its position; 1 for a kind above 10, 15 for a retired one, 9 for one that has no
 // matrix, also where the colours are equal.
+// Kept: the public call takes a kind by its number, of which 1, 15 and 9 are answered (document 01).
 pub fn pick(bracket: Bracket, kind: u32, x: u32, y: u32) -> Result<Choice, Refusal>
     ensures { PickedAt bracket kind x y result }
 {

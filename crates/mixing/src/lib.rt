@@ -94,6 +94,9 @@ impl Offset {
     }
 }
 
+// Kept: `along`, `share` and `lerp` have the same three colours. `lerp`'s parameters and their order are the original's, and a
+// struct for two helpers would be no plainer.
+
 // How far the colour lies from c1 in the direction of c2, times the distance of the two.
 #[tactic(auto, unfolding(crate::specs::Lerp::along))]
 fn along(c1: NormalizedColor, c2: NormalizedColor, color: NormalizedColor) -> f32

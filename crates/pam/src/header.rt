@@ -137,6 +137,7 @@ fn next_line(bytes: &[u8]) -> Option<(&[u8], &[u8])>
 }
 
 // A name's value, put in its place; none where it has one.
+// Kept: the values by the name's number, so that one law serves the five names.
 fn note(values: &mut [Option<u32>; 5], name: Field, value: u32) -> Option<()>
     ensures { Noted values.old name value result values.new }
 {

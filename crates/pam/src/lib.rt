@@ -58,7 +58,7 @@ pub fn read_pam(file: &[u8], pixels: &mut [u8]) -> Result<Size, Refusal>
     if pixels.len() != 4 * n {
         return Err(Refusal::Length);
     }
-    raster::put_pixels(header.depth, header.raster, n, pixels);
+    raster::put_pixels(header.depth, header.raster, pixels);
     Ok(header.size)
 }
 

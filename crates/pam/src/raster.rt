@@ -1,5 +1,5 @@
 // The pixels of a PAM file: a copy where they have four samples, and 255 behind each three where they have no alpha.
-ghost use Rattle.std.specs.Prelude.{◌≡◌, ◌+◌, ◌*◌, ◌-◌, ◌≤◌, ◌<◌, length, set, take};
+ghost use Rattle.std.specs.Prelude.{◌≡◌, ◌+◌, ◌*◌, ◌-◌, ◌/◌, ◌≤◌, ◌<◌, length, set, take};
 ghost use Rattle.std.proofs.lemmas.List.Edits.{sets};
 ghost use Rattle.lists.specs.Gather.{gather};
 ghost use Rattle.pam.specs.Pam.{pixel_at};
@@ -87,14 +87,14 @@ fn put_all_opaque(raster: &[u8], n: usize, pixels: &mut [u8])
     }
 }
 
-// Kept: n ties the lengths of both slices, `depth` bytes a pixel and four, which neither tells alone.
-// The pixels of a raster of n, with three samples each or four. No public call: the caller sees to the lengths.
-pub fn put_pixels(depth: u32, raster: &[u8], n: usize, pixels: &mut [u8])
-    requires { (n ≤ 1048576) × (3 ≤ depth) × (depth ≤ 4) × (length raster.now ≡ depth * n) × (length pixels.old ≡ 4 * n) }
-    ensures { pixels.new ≡ gather n (pixel_at depth raster.now) }
+// The pixels of a raster with three samples each or four. No public call: the caller sees to the lengths.
+pub fn put_pixels(depth: u32, raster: &[u8], pixels: &mut [u8])
+    requires { let n = length pixels.old / 4 in
+        (n ≤ 1048576) × (3 ≤ depth) × (depth ≤ 4) × (length raster.now ≡ depth * n) × (length pixels.old ≡ 4 * n) }
+    ensures { pixels.new ≡ gather (length pixels.old / 4) (pixel_at depth raster.now) }
 {
     if depth == 3 {
-        return put_all_opaque(raster, n, pixels);
+        return put_all_opaque(raster, pixels.len() / 4, pixels);
     }
     pixels.copy_from_slice(raster)
 }

@@ -6,6 +6,8 @@ ghost use Rattle.pam.specs.Pam.{decimal, header_text, pam_of, pam_length, buffer
 use crate::sides::Sides;
 
 // How many digits a side has.
+// Kept: digits by hand, here and in `put_decimal`. The library has no `fmt::Write` into a lent slice, and `write!` promises its
+// text where it succeeds, but not that it does.
 fn digits(n: u32) -> usize
     requires { n ≤ 4096 }
     ensures { result ≡ length (decimal n) }
@@ -16,9 +18,9 @@ fn digits(n: u32) -> usize
     digits(n / 10) + 1
 }
 
+// Writes a text at a place; where it ends.
 // Kept: a place beside the buffer. A function that hands back the rest of a `&mut` slice says what the slice becomes by an
 // assertion on loans, which is no plainer than where the text ends.
-// Writes a text at a place; where it ends.
 fn put(file: &mut [u8], at: usize, bytes: &[u8]) -> usize
     requires { at + length bytes.now ≤ length file.old }
     ensures { (result ≡ at + length bytes.now) × (file.new ≡ sets file.old at bytes.now) }

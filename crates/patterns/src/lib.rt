@@ -71,8 +71,8 @@ pub fn dither_of(kind: u32) -> Option<Dither>
     Dither::try_from(kind).ok()
 }
 
-// Kept: the next four test the number that C gives, and not the kind: a drawing tests it at each pixel, and by `dither_of` a
-// test takes half as long again.
+// Kept: the next four test the number, and not the kind. The public calls and C name a kind by its number (document 01), and a
+// drawing tests it at each pixel, where by `dither_of` a test takes half as long again.
 
 // Whether there is a kind with this number, retired or not.
 #[tactic(auto, using(crate::proofs::Numbers::kind_is))]
@@ -160,6 +160,8 @@ fn threshold_in<const N: usize>(matrix: [[u8; N]; N], n: f32, x: u32, y: u32) ->
 
 // The threshold of a kind at column x and row y; 1 for a number above 10; 15 for a retired kind; 9 for one that has no
 // matrix.
+//
+// Kept: the public call and C name a kind by its number, of which 1 and 15 are answered.
 pub fn ordered_threshold(kind: u32, x: u32, y: u32) -> Result<f32, Refusal>
     ensures { OrderedThresholdAnswered kind x y result }
 {
@@ -176,6 +178,8 @@ pub fn ordered_threshold(kind: u32, x: u32, y: u32) -> Result<f32, Refusal>
 }
 
 // The threshold of an ordered kind. No public call: the caller sees to the kind.
+//
+// Kept: a number, as `drawing::Ditherer`'s, since the definition of what is drawn asks of the number.
 pub fn threshold_at(kind: u32, x: u32, y: u32) -> f32
     requires { T (is_ordered kind) }
     ensures { result ≡ threshold_at kind x y }

@@ -48,8 +48,8 @@ fn opaque_needed(reducing: Reducing, n: usize) -> usize
 // Whether a table or pixels that every call on a picture is lent have not the length that n pixels need. No public call: the
 // caller sees to the number of pixels.
 //
-// Kept as four lengths: each call has them among others in its own `Lengths`, of which the definitions of its replies speak, and
-// would take them out to make a struct of them here.
+// Kept as four lengths: three definitions of the calls' replies spell each of them as a field, and a struct of the four nested
+// in each would be no plainer.
 pub fn lent_wrong(
     reducing: Reducing,
     reduction: usize,
@@ -142,6 +142,9 @@ pub fn reduced_in(
 
 // Whether pixel i is not transparent, by its own alpha and the least that is seen (`reducing::least_alpha`): no look at the
 // pixels that reduce. No public call: the caller sees to the length.
+//
+// Kept: the least and the pixels stay two parameters, though four functions have both. `drawing::finish` promises for any least,
+// and so no struct of them has a fact to hold.
 pub fn is_seen(least: u8, pixels: &[u8], i: usize) -> bool
     requires { 4 * i + 3 < length pixels.now }
     ensures { result ≡ seen_from least pixels.now i }

@@ -10,10 +10,21 @@ mod rooms;
 
 use recorded::Room;
 use reducing::Reducing;
+use replies::Refusal;
 
 // Whether a call is one on pictures. These are lent the two tables.
 pub fn has_tables(letter: u8) -> bool {
     matches!(letter, b'c' | b'q' | b'x')
+}
+
+// The number of an answer: 0, or a refusal's.
+fn number_of<A: Copy>(answer: Result<A, Refusal>) -> u8 {
+    answer.err().map_or(0, |refusal| refusal.number())
+}
+
+// Whether token k is this number, and without one is empty.
+fn is_count(room: &Room, k: usize, count: Option<u32>) -> bool {
+    count.map_or(room.is_empty(k), |n| room.is_word(k, n))
 }
 
 // Whether our answer to a case is the recorded one. Token 3 of every call is how it reduces.

@@ -51,9 +51,9 @@ pub fn dither_to_mode(reducing: Reducing, room: &Room) -> bool {
     let mut cells = [0; 960];
     let cells = &mut cells[..(room.part(19).len() / 2).min(960)];
     if !(room.bytes_into(16, places)
-        && room.floats(17, oklab)
+        && room.read_into(17, oklab)
         && room.bytes_into(18, out)
-        && room.cells(19, cells))
+        && room.read_into(19, cells))
     {
         return false;
     }
@@ -70,7 +70,7 @@ pub fn dither_to_mode(reducing: Reducing, room: &Room) -> bool {
     );
     is_answer(room, answer)
         && room.part(23) == places
-        && room.are_floats(24, oklab)
+        && room.are(24, oklab)
         && room.part(25) == out
-        && room.are_cells(26, cells)
+        && room.are(26, cells)
 }

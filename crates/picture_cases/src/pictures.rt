@@ -1,15 +1,7 @@
 // `quantize_pixels`: a case lends the recorded indices, pixels and cells, cut to their length, and compares them afterwards.
+use super::number_of;
 use recorded::{ANY, BYTE, Room, WORD};
 use reducing::Reducing;
-use replies::Refusal;
-
-// Whether the number is the recorded one.
-fn is_answer(room: &Room, answer: Result<(), Refusal>) -> bool {
-    match answer {
-        Ok(()) => room.is_byte(13, 0),
-        Err(refusal) => room.is_byte(13, refusal.number()),
-    }
-}
 
 // q: reduction scale shift reducing kind width height palette pixels opaque indices out cells | number indices out cells
 pub fn quantize_pixels(reducing: Reducing, room: &Room) -> bool {
@@ -24,7 +16,7 @@ pub fn quantize_pixels(reducing: Reducing, room: &Room) -> bool {
     let out = &mut out[..room.part(11).len().min(1280)];
     let mut cells = [0; 960];
     let cells = &mut cells[..(room.part(12).len() / 2).min(960)];
-    if !(room.bytes_into(10, indices) && room.bytes_into(11, out) && room.cells(12, cells)) {
+    if !(room.bytes_into(10, indices) && room.bytes_into(11, out) && room.read_into(12, cells)) {
         return false;
     }
     let answer = quantize::quantize_pixels(
@@ -42,8 +34,8 @@ pub fn quantize_pixels(reducing: Reducing, room: &Room) -> bool {
         out,
         cells,
     );
-    is_answer(room, answer)
+    room.is_byte(13, number_of(answer))
         && room.part(14) == indices
         && room.part(15) == out
-        && room.are_cells(16, cells)
+        && room.are(16, cells)
 }

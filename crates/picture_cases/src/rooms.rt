@@ -1,15 +1,7 @@
 // `candidate_colors_in`: a case lends the recorded rooms, cut to their length, and compares them afterwards.
+use super::{is_count, number_of};
 use recorded::{ANY, BYTE, Room, WORD};
 use reducing::Reducing;
-use replies::Refusal;
-
-// Whether the number and the count are the recorded ones. A refusal has no count.
-fn is_answer(room: &Room, answer: Result<u32, Refusal>) -> bool {
-    match answer {
-        Ok(count) => room.is_byte(10, 0) && room.is_word(11, count),
-        Err(refusal) => room.is_byte(10, refusal.number()) && room.is_empty(11),
-    }
-}
 
 // c: reduction scale shift reducing width height pixels opaque places oklab | number count places oklab
 pub fn candidate_colors_in(reducing: Reducing, room: &Room) -> bool {
@@ -22,7 +14,7 @@ pub fn candidate_colors_in(reducing: Reducing, room: &Room) -> bool {
     let places = &mut places[..room.part(8).len().min(1280)];
     let mut oklab = [0.0; 960];
     let oklab = &mut oklab[..(room.part(9).len() / 4).min(960)];
-    if !(room.bytes_into(8, places) && room.floats(9, oklab)) {
+    if !(room.bytes_into(8, places) && room.read_into(9, oklab)) {
         return false;
     }
     let answer = candidates::candidate_colors_in(
@@ -37,5 +29,8 @@ pub fn candidate_colors_in(reducing: Reducing, room: &Room) -> bool {
         places,
         oklab,
     );
-    is_answer(room, answer) && room.part(12) == places && room.are_floats(13, oklab)
+    room.is_byte(10, number_of(answer))
+        && is_count(room, 11, answer.ok())
+        && room.part(12) == places
+        && room.are(13, oklab)
 }

@@ -62,5 +62,5 @@ module _ (q : Commission) (indices out : List ℕ) (cells : List ℤ) (f : Fitti
     long : length chosen ≡ 4 * size q
     long = ap length e ∙ bytes_length (quantizing q)
 
-    pub finishable : Finishable q.pixels (size q) chosen
-    finishable = record { source = f.pixels; long = long }
+    pub finishable : Finishable q.pixels chosen
+    finishable = record { source = f.pixels ∙ sym long; long = omega (arith, long) }

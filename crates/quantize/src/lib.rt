@@ -18,6 +18,7 @@ use replies::Refusal;
 
 // What is asked of a picture: the mode's shift and how it reduces, the kind of dithering and the picture's size. The call takes
 // them one by one, as the original does.
+// Kept: the kind is a number, as the call takes it, which refuses numbers by 1 and 15.
 #[derive(Clone, Copy, Debug, PartialEq, Eq, Hash)]
 struct Asked {
     shift: u32,
@@ -28,6 +29,7 @@ struct Asked {
 }
 
 // How long each lent buffer is.
+// Kept, lengths without their buffers: the definition of the replies (`checks`) is of them, and stands for cells of floats too.
 #[derive(Clone, Copy, Debug, PartialEq, Eq, Hash)]
 pub struct Lengths {
     pub reduction: usize,
@@ -43,6 +45,7 @@ pub struct Lengths {
 // ---- refusals
 
 // Whether a lent length is wrong. No public call: the caller sees to the size.
+#[tactic(auto, unfolding(crate::specs::Quantize::lengths_wrong))]
 fn lengths_wrong(reducing: Reducing, kind: u32, size: usize, s: Lengths) -> bool
     requires { size ≤ 1048576 }
     ensures { result ≡ lengths_wrong reducing kind size s }
@@ -54,6 +57,7 @@ fn lengths_wrong(reducing: Reducing, kind: u32, size: usize, s: Lengths) -> bool
 }
 
 // Whether the palette has not 1 to 256 entries.
+#[tactic(auto, unfolding(crate::specs::Quantize::entries_wrong))]
 fn entries_wrong(count: usize) -> bool
     ensures { result ≡ entries_wrong count }
 {
@@ -61,8 +65,8 @@ fn entries_wrong(count: usize) -> bool
 }
 
 // The first refusal that applies, if one does.
-// Kept beside `check` of `dither`: the three tests that both begin with are of other bounds each, and 15 stands between them as
-// each call's list has it; one function of the three answers would take as many lines to call as they are.
+// Kept beside `check` of `dither`, whose tests for 1 and 15 are the same: 15 stands between 1 and 2, and 2 is another test in each.
+// The programs refused for asking 15 too early or too late (`fifteen_before_one`, `fifteen_after_two`) change each call's own list.
 fn check(asked: Asked, s: Lengths) -> Result<(), Refusal>
     ensures { number_of result ≡ first_reply (checks asked.shift asked.reducing asked.kind asked.width asked.height s) }
 {
@@ -93,6 +97,8 @@ fn check(asked: Asked, s: Lengths) -> Result<(), Refusal>
 
 // Quantizes a picture that is accepted, over what is lent with the palette as the candidates. No public call: the caller sees
 // to all of it.
+// Kept, three buffers: a struct of them would hold `&mut` slices, and its clauses speak of loans; the call is lent them one by
+// one, as the original has it.
 fn quantize(asked: Asked, lent: &Lent, indices: &mut [u8], out: &mut [u8], cells: &mut [i16])
     requires { let q = commission_by asked.shift asked.kind asked.width asked.height (lent_by lent.now) in
         Fitting q (lengths_of q indices.old out.old cells.old) × (lent_by lent.now ≡ lent_of q (palette_oklab q)) }
@@ -109,11 +115,10 @@ fn quantize(asked: Asked, lent: &Lent, indices: &mut [u8], out: &mut [u8], cells
         bracket_width: mixing::width_of(asked.shift, count as u64),
     };
     ditherer.draw(None, lent, indices, out, cells);
-    let size = asked.width as usize * asked.height as usize;
     let least = reducing::least_alpha(lent.reducing);
     let scale = lent.candidates.scale;
     let pixels = lent.pixels;
-    drawing::finish(least, scale, pixels, size, out);
+    drawing::finish(least, scale, pixels, out);
 }
 
 // Quantizes a picture to a palette: each pixel's palette index, and its colour at full precision. On a refusal all

@@ -2,7 +2,8 @@
 // with them. Nothing here trusts the list: what lies outside a slice is an empty part, or 0.
 #![tactic(auto)]
 
-ghost use Rattle.std.specs.Prelude.{◌≡◌, ◌≢◌, ℕ, ◌<◌, ◌≤◌, IfOk, length, slice_index};
+ghost use Rattle.std.specs.Prelude.{◌≡◌, ◌≢◌, ℕ, ◌<◌, ◌≤◌, IfOk, Ok, length, slice_index};
+ghost use Rattle.std.specs.Result.{ForOk};
 ghost use Rattle.std.proofs.Common.{rules};
 
 use color::ReducedColor;
@@ -15,12 +16,12 @@ pub fn byte_at(bytes: &[u8], i: usize) -> u8 {
 }
 
 // The bytes from `from` up to `to`; none where these are not there.
-pub fn piece(bytes: &[u8], from: usize, to: usize) -> &[u8] {
+fn piece(bytes: &[u8], from: usize, to: usize) -> &[u8] {
     bytes.get(from..to).unwrap_or(&[])
 }
 
 // The place of the first such byte from `from` on; the slice's end where there is none. No public call: the caller sees to
-// the place.
+// the place. Kept: with `position` two of the four promises were tried and not proved.
 pub fn find(bytes: &[u8], from: usize, byte: u8) -> usize
     requires { from ≤ length bytes.now }
     ensures low { from ≤ result }
@@ -40,7 +41,7 @@ pub fn find(bytes: &[u8], from: usize, byte: u8) -> usize
 
 // A line that has another digit than 0 to 9 and a to f, or half a byte, or more than there is room for.
 #[derive(Clone, Copy, Debug, PartialEq, Eq)]
-pub struct Malformed;
+struct Malformed;
 
 // The value of a hexadecimal digit.
 fn digit(c: u8) -> Result<u8, Malformed> {
@@ -88,31 +89,31 @@ pub const WORD: Option<usize> = Some(4);
 pub const LONG: Option<usize> = Some(8);
 
 // Room for the tokens of a case: their bytes lie one after the other, and `ends` says of each where it ends. Kept: with no
-// heap, how many there are stands beside the array.
+// heap, how many there are stands beside the array. There is no count where a line was malformed, and then no token.
 #[derive(Drop)]
 pub struct Room {
     bytes: [u8; 32703],
     ends: [usize; 31],
-    count: usize,
-    ghost counted: { count ≤ 31 },
+    count: Result<usize, Malformed>,
+    ghost counted: { ForOk count (λ n. n ≤ 31) },
 }
 
 impl Room {
     // No tokens.
     pub fn new() -> Self
-        ensures { result.count ≡ 0 }
+        ensures { result.count ≡ Ok 0 }
     {
         Room {
             bytes: [0; 32703],
             ends: [0; 31],
-            count: 0,
+            count: Ok(0),
         }
     }
 
     pub fn clear(&mut self)
-        ensures { self.new.count ≡ 0 }
+        ensures { self.new.count ≡ Ok 0 }
     {
-        self.count = 0;
+        self.count = Ok(0);
     }
 
     // Where token k begins, if there is a token before.
@@ -126,15 +127,17 @@ impl Room {
 
     // Token k.
     pub fn part(&self, k: usize) -> &[u8] {
-        if k < self.count {
+        if self.count.is_ok_and(|n| k < n) {
             return piece(&self.bytes, self.start(k), self.ends[k]);
         }
         &[]
     }
 
-    // Reads a token behind those that there are. A dash stands for no digits.
-    fn token(&mut self, text: &[u8]) -> Result<(), Malformed> {
-        let k = self.count;
+    // Reads a token behind those that there are. Answers how many there are with it. A dash stands for no digits.
+    fn token(&mut self, text: &[u8]) -> Result<usize, Malformed>
+        ensures { IfOk result (λ n. n ≤ 31) }
+    {
+        let k = self.count?;
         let from = self.start(k);
         let digits = match text {
             b"-" => &[],
@@ -146,23 +149,21 @@ impl Room {
             return Err(Malformed);
         }
         self.ends[k] = from + n;
-        self.count = k + 1;
-        Ok(())
+        Ok(k + 1)
     }
 
-    // Reads the tokens of a line, which stand after its letter and a space.
-    pub fn decode(&mut self, line: &[u8]) -> Result<(), Malformed> {
+    // Reads the tokens of a line, which stand after its letter and a space. After a malformed line no case is shaped.
+    pub fn decode(&mut self, line: &[u8]) {
         if let Some(tokens) = line.get(2..) {
             for text in tokens.split(|c| *c == b' ') {
-                self.token(text)?;
+                self.count = self.token(text);
             }
         }
-        Ok(())
     }
 
     // Whether the tokens are as many as the widths, and as wide.
     pub fn shaped(&self, widths: &[Option<usize>]) -> bool {
-        self.count == widths.len()
+        self.count.is_ok_and(|n| n == widths.len())
             && widths
                 .iter()
                 .enumerate()
@@ -183,7 +184,7 @@ impl Room {
         (self.number(k) & 0xffff_ffff) as u32
     }
 
-    // Whether token k is this number.
+    // Whether token k is this number. Kept: one line a type, where an impl of `Value` is a dozen, with a read that nobody calls.
     pub fn is_byte(&self, k: usize, n: u8) -> bool {
         self.part(k) == [n].as_slice()
     }
@@ -207,24 +208,35 @@ impl Room {
 
     // Whether token k is this number, and the tokens after it are empty.
     pub fn is_refusal(&self, k: usize, n: u8) -> bool {
-        self.is_byte(k, n) && (k..self.count).skip(1).all(|j| self.is_empty(j))
+        self.is_byte(k, n)
+            && self
+                .count
+                .is_ok_and(|count| (k..count).skip(1).all(|j| self.is_empty(j)))
     }
 
     // ---- floats, by their bits, and cells: signed numbers of two bytes each, in two's complement
 
+    // Whether token k is just these values.
+    pub fn are<T: Value>(&self, k: usize, values: &[T]) -> bool {
+        let chunks = self.part(k).chunks_exact(T::WIDTH);
+        chunks.remainder().is_empty()
+            && chunks.len() == values.len()
+            && chunks
+                .zip(values)
+                .all(|(bytes, value)| value.is_written(bytes))
+    }
+
     // Whether token k is this float.
     pub fn is_float(&self, k: usize, x: f32) -> bool {
-        self.are_floats(k, &[x])
+        self.are(k, &[x])
     }
 
-    // Whether token k is just these floats.
-    pub fn are_floats(&self, k: usize, floats: &[f32]) -> bool {
-        are(self.part(k), floats)
-    }
-
-    // Whether token k is just these cells.
-    pub fn are_cells(&self, k: usize, cells: &[i16]) -> bool {
-        are(self.part(k), cells)
+    // Reads the values of token k. Answers whether it has just so many, and no NaN.
+    pub fn read_into<T: Value>(&self, k: usize, out: &mut [T]) -> bool {
+        for (place, bytes) in out.iter_mut().zip(self.part(k).chunks_exact(T::WIDTH)) {
+            *place = T::read(bytes);
+        }
+        self.are(k, out)
     }
 
     // Reads the bytes of token k. Answers whether it has just so many.
@@ -235,18 +247,6 @@ impl Room {
         }
         out.copy_from_slice(bytes);
         true
-    }
-
-    // Reads the floats of token k. Answers whether it has just so many, and no NaN.
-    pub fn floats(&self, k: usize, out: &mut [f32]) -> bool {
-        read_into(self.part(k), out);
-        self.are_floats(k, out)
-    }
-
-    // Reads the cells of token k. Answers whether it has just so many.
-    pub fn cells(&self, k: usize, out: &mut [i16]) -> bool {
-        read_into(self.part(k), out);
-        self.are_cells(k, out)
     }
 
     // ---- colours
@@ -260,7 +260,7 @@ impl Room {
 
 // ---- values that take several bytes each
 
-trait Value: Copy {
+pub trait Value: Copy {
     ghost WIDTH: { ℕ };
 
     // How many bytes one takes.
@@ -306,23 +306,6 @@ impl Value for i16 {
     }
 
     ghost takes_some = { Prim.search rules };
-}
-
-// Reads the values of a part into as many places.
-fn read_into<T: Value>(p: &[u8], places: &mut [T]) {
-    for (place, bytes) in places.iter_mut().zip(p.chunks_exact(T::WIDTH)) {
-        *place = T::read(bytes);
-    }
-}
-
-// Whether a part is just these values.
-fn are<T: Value>(p: &[u8], values: &[T]) -> bool {
-    let chunks = p.chunks_exact(T::WIDTH);
-    chunks.remainder().is_empty()
-        && chunks.len() == values.len()
-        && chunks
-            .zip(values)
-            .all(|(bytes, value)| value.is_written(bytes))
 }
 
 // Float i of a part.

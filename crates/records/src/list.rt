@@ -11,7 +11,7 @@ ghost use Rattle.records.specs.Answers.{taken_at, records_at};
 
 use super::Taken;
 use color::{CandidateColor, NormalizedColor, Oklab, ReducedColor, all_in_range, sqdist};
-use lookup::brackets::bracket_of_two;
+use lookup::brackets::{bracket_at, bracket_of_two};
 use lookup::seconds::second_of;
 use lookup::{Bracket, Entries, Two, count_fits};
 use mixing::clamp_width;
@@ -34,6 +34,10 @@ pub struct Records<'a> {
 
 impl<'a> Entries for Records<'a> {
     ghost listed = { λ records. candidates_of records.list.now };
+
+    fn reduced_at(&self, k: usize) -> ReducedColor {
+        self.list[k].reduced
+    }
 
     fn normal_at(&self, k: usize) -> NormalizedColor {
         self.list[k].normalized
@@ -83,14 +87,6 @@ impl<'a> Records<'a> {
         }
     }
 
-    // Record k's reduced colour. No public call: the caller sees to the position.
-    fn reduced_at(&self, k: usize) -> ReducedColor
-        requires { k < length self.now.list.now }
-        ensures { result ≡ (record_at self.now.list.now k).reduced }
-    {
-        self.list[k].reduced
-    }
-
     // The nearest record, the first of equals.
     pub fn nearest(&self, o: Oklab) -> usize
         ensures { result ≡ nearest_of (candidates_of self.now.list.now) o }
@@ -123,6 +119,7 @@ impl<'a> Records<'a> {
     }
 
     // The nearest two.
+    // Kept: alike over flat lists (crate `lookup`), for the reason that stands there.
     pub fn two(&self, width: u64, o: Oklab, color: NormalizedColor) -> Two
         ensures { result ≡ nearest_two_of (candidates_of self.now.list.now) width o color }
     {
@@ -140,12 +137,6 @@ impl<'a> Records<'a> {
         ensures { result ≡ bracket_of (candidates_of self.now.list.now) width o color }
     {
         let at = bracket_of_two(self, self.two(width, o, color), color);
-        Bracket {
-            dark: self.reduced_at(at.dark),
-            light: self.reduced_at(at.light),
-            ratio: at.ratio,
-            dark_position: at.dark,
-            light_position: at.light,
-        }
+        bracket_at(self, at)
     }
 }

@@ -14,7 +14,8 @@ use shortlist::Shortlist;
 use shortlist::near::nearest_position;
 
 // The candidates' Oklab colours, from -2 to 2, among which the nearest to a colour is found, and the table of linear values by
-// which a colour comes to Oklab.
+// which a colour comes to Oklab. Kept: a count beside the list, which may be longer; the promises are of its first `count`
+// entries.
 #[derive(Clone, Copy)]
 pub struct Oklabs<'a> {
     pub linear: &'a LinearTable,
@@ -76,8 +77,12 @@ impl<'a> Entries for Candidates<'a> {
 
     ghost listed = { entries };
 
+    fn reduced_at(&self, k: usize) -> ReducedColor {
+        ReducedColor(rgba_at(self.colors, k))
+    }
+
     fn normal_at(&self, k: usize) -> NormalizedColor {
-        normalize_color(self.scale, ReducedColor(rgba_at(self.colors, k)))
+        normalize_color(self.scale, self.reduced_at(k))
     }
 
     fn oklab_at(&self, k: usize) -> Oklab {
@@ -93,6 +98,8 @@ impl<'a> Candidates<'a> {
     ghost use Rattle.remembered.specs.Lent.{entries};
 
     // The nearest entry and the second, worked out, but for the shortlist where that is remembered.
+    // Kept: whose answers are remembered stands here and below in the contracts, as above; alike `two` over flat lists (crate
+    // `lookup`), for the reason that stands there.
     fn pair_anew(&self, width: u64, color: NormalizedColor, seed: usize, memory: &mut Memory) -> Two
         requires { (seed < self.now.oklabs.count) × TableAndRows (entries self.now) width memory.old }
         ensures { (result ≡ nearest_two_of (entries self.now) width (to_oklab color) color)

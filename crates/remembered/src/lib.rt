@@ -77,6 +77,7 @@ pub struct Memory {
 }
 
 // A colour's key.
+// Kept: products and not `u32::from_le_bytes`: the definition is of the same products, by which a key is taken apart again.
 fn key_of(c: NormalizedColor) -> u32
     ensures { (result ≡ key_of c) × (result ≤ 16777216) }
 {

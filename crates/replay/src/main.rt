@@ -5,7 +5,7 @@
 
 ghost use Rattle.std.specs.Prelude.{◌≡◌, ◌<◌, ◌≤◌, IfOk, IfSome, length};
 
-use recorded::{Malformed, Room};
+use recorded::Room;
 use std::io;
 use std::io::{Read, Write};
 
@@ -52,18 +52,12 @@ fn lent(tables: &[u8], letter: u8) -> &[u8] {
     }
 }
 
-// Reads the tokens of a case. The tables are its first.
-fn read(tables: &[u8], line: &[u8], room: &mut Room) -> Result<(), Malformed> {
-    room.clear();
-    room.decode(tables)?;
-    room.decode(line)
-}
-
-// Whether our answer to a case is the recorded one.
+// Whether our answer to a case is the recorded one. The tables are its first tokens. Kept: a call goes by its letter in the
+// list, of which there may be others; each crate of cases says which are its own.
 fn same(tables: &[u8], line: &[u8], letter: u8, room: &mut Room) -> bool {
-    if read(lent(tables, letter), line, room).is_err() {
-        return false;
-    }
+    room.clear();
+    room.decode(lent(tables, letter));
+    room.decode(line);
     if picture_cases::has_tables(letter) {
         return picture_cases::same(letter, room);
     }

@@ -3,11 +3,9 @@
 -- (`distance_order`); NaN and -0, where the two orders differ, do not arise. Assumes nothing.
 use mathlib.Core.Path.{◌≡◌}
 use mathlib.Core.Logic.{◌⊎◌}
-use mathlib.Core.List.{List}
-use Prim.Native.Nat.{ℕ, ◌≤◌, ◌<◌}
-use native.Mathlib.Omega.{arith}
+use Prim.Native.Nat.{ℕ, ◌<◌}
 use lib.Dec.{T}
-use lib.Ieee.{Float, binary32, lt}
+use lib.Ieee.{binary32, lt}
 use Rattle.floats.specs.Bounds.{Upto}
 use Rattle.floats.proofs.Order.{Plain, upto_plain, lt_asymmetric, nlt_trans, trichotomy}
 use Rattle.lists.specs.Least.{Least, Comparison}
@@ -15,7 +13,7 @@ use Rattle.lists.proofs.LeastLaws.{least_is, least_only, least_inside}
 use Rattle.color.specs.declared.Oklab.{Oklab}
 use Rattle.color.specs.Oklab.{all_in_range, sqdist_of}
 use Rattle.color.proofs.Distances.{all_in_range_lem, distance_upto, distance_fits}
-use Rattle.shortlist.specs.Candidates.{Candidates, RangedList}
+use Rattle.shortlist.specs.Candidates.{Candidates}
 use Rattle.shortlist.specs.Nearest.{distances, nearest_in, nearest_of}
 
 -- `<` on values that are finite, not negative and not -0
@@ -37,10 +35,6 @@ module _ (oklab : ℕ → Oklab) (n : ℕ) (range : (k : ℕ) → k < n → T (a
 
   pub distances_plain : (k : ℕ) → k < n → Plain (distances o oklab k)
   distances_plain k h = upto_plain 112 (distances o oklab k) (distances_upto k h)
-
--- the first m of n colours within range are within range
-pub ranged_fewer : (oklab : List Float) (m n : ℕ) → m ≤ n → RangedList oklab n → RangedList oklab m
-ranged_fewer oklab m n h r = record { long = omega (arith, r.long); range = λ k l. r.range k (omega arith) }
 
 -- ---- no entry is nearer, and every earlier entry is farther
 pub nearest_least : (cs : Candidates) (o : Oklab) → 0 < cs.count → ((k : ℕ) → k < cs.count → T (all_in_range (cs.oklab k))) → T (all_in_range o)

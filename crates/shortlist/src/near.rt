@@ -18,6 +18,7 @@ struct Leader {
 }
 
 // The lesser of two distances, the first of equals.
+// Kept: `f32::min` promises either of two that are equal, and this the first.
 fn lesser(a: f32, b: f32) -> f32
     ensures { result ≡ lesser_of a b }
 {
@@ -91,6 +92,7 @@ fn leader_by_eight(oklab: &[f32], o: Oklab, reach: f32, k: usize, leader: Leader
 }
 
 // The leader of a long list, from its first entry as the leader on; no entry farther than the seed needs a look.
+// Kept: a count beside the list. It may be longer; the promise is of its first `count` entries.
 fn leader_of(oklab: &[f32], count: usize, o: Oklab, seed: usize, start: Leader) -> Leader
     requires { (seed < count) × (3 * count ≤ length oklab.now) }
     ensures { Onward (distances o (oklab_at oklab.now)) (distances o (oklab_at oklab.now) seed) 0 count start result }
@@ -107,6 +109,7 @@ fn leader_of(oklab: &[f32], count: usize, o: Oklab, seed: usize, start: Leader) 
 // near; which one it is changes nothing but the time. The colour comes as three floats: a struct would be written to memory
 // and read back from there, two floats at once of which each had been written by another store, and so late. No public call:
 // the caller sees to the list, the range and the seed.
+// Kept: the count, for the reason that `leader_of` gives.
 pub fn nearest_position(oklab: &[f32], count: usize, l: f32, a: f32, b: f32, seed: usize) -> usize
     requires { RangedList oklab.now count × T (all_in_range (record { l = l; a = a; b = b })) × (seed < count) }
     ensures { result ≡ nearest_in (oklab_at oklab.now) count (record { l = l; a = a; b = b }) }

@@ -1,4 +1,5 @@
--- `color::in_range` meets its contract: its two tests are the definition's. Assumes nothing.
+-- `color::in_range` meets its contract: its two tests are the definition's. Kept, since the check alone does not
+-- open the library's `of_bits`. Assumes nothing.
 use mathlib.Core.Path.{refl}
 use lib.Ieee.{of_bits}
 use Rattle.color.specs.Oklab.{in_range}

@@ -1,12 +1,13 @@
 -- `drawing::Ditherer::ordered_color_at` meets its contract: what is picked of the bracket, whose positions are entries. Assumes nothing.
+use Rattle.lookup.proofs.BracketLaws.{bracket_entries}
 use Rattle.remembered.specs.Lent.{entries}
-use Rattle.drawing.proofs.StepLaws.{bracket_entries, ordered_is}
+use Rattle.drawing.proofs.StepLaws.{ordered_is}
 use Rattle.drawing.proofs.Ditherer.ordered_color_at.Goals as goal
 
 pub bracket_at-bracket-requires : goal.bracket_at-bracket-requires
 bracket_at-bracket-requires c =
     let cs = c.args.candidates.now in
-    bracket_entries (entries cs) _ _ _ c.bracket_positions-at.ensures.0 c.requires.0 cs.oklabs.ranged.range _ cs.room
+    bracket_entries (entries cs) _ _ _ _ c.bracket_positions-at.ensures.0 c.requires.0 cs.oklabs.ranged.range
 
 pub returns : goal.returns
 returns c =

@@ -1,4 +1,5 @@
--- `reducing::luma::unit` meets its contract: its quotient is the definition's. Assumes nothing.
+-- `reducing::luma::unit` meets its contract: its quotient is the definition's. Kept, since the check alone does not open the library's floats.
+-- Assumes nothing.
 use mathlib.Core.Path.{refl}
 use lib.Ieee.{of_int, of_bits, round}
 use Rattle.floats.specs.Bytes.{byte_f}

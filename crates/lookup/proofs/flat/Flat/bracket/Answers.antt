@@ -1,6 +1,5 @@
 -- `Flat::bracket` meets its contract: the reduced colours of the bracket's positions. Assumes nothing.
 use mathlib.Core.Path.{ap, ◌∙◌}
-use native.Mathlib.Omega.{arith}
 use Rattle.shortlist.specs.Candidates.{flat}
 use Rattle.lookup.specs.Bracket.{colored}
 use Rattle.lookup.proofs.ListLaws.{accepted}
@@ -25,9 +24,8 @@ bracket_at-requires c =
     let cs = flat l.reduced.now l.normalized.now l.oklab.now in
     let a = c.args in
     let p = c.bracket_of_two-at in
-    let i = bracket_entries cs a.width a.o a.color p.result (bracket_is cs a.width a.o a.color c.two.result c.two.ensures p.result p.ensures) A.positive
-    A.ranged.range in
-    (omega (arith, i.0, A.bytes), omega (arith, i.1, A.bytes))
+    bracket_entries cs a.width a.o a.color p.result (bracket_is cs a.width a.o a.color c.two.result c.two.ensures p.result p.ensures) A.positive
+    A.ranged.range
 
 pub returns : goal.returns
 returns c =

@@ -8,19 +8,11 @@ use Rattle.records.proofs.ListLaws.{accepted}
 use Rattle.records.proofs.list.Records.bracket.Goals as goal
 
 pub returns : goal.returns
-unfolding colored
 returns c =
     let cs = candidates_of c.args.self.now.list.now in
     let a = c.args in
     let p = c.bracket_of_two-at in
-    (λ i. record {
-      dark = c.reduced_at.ensures i;
-      light = c.reduced_at-2.ensures i;
-      ratio = p.result.ratio;
-      dark_position = p.result.dark;
-      light_position = p.result.light;
-    })
-    ∙ ap (colored cs.reduced) (bracket_is cs a.width a.o a.color c.two.result c.two.ensures p.result p.ensures)
+    c.bracket_at.ensures ∙ ap (colored _) (bracket_is cs a.width a.o a.color c.two.result c.two.ensures p.result p.ensures)
 
 pub bracket_of_two-at-requires : goal.bracket_of_two-at-requires
 bracket_of_two-at-requires c =
@@ -32,20 +24,11 @@ bracket_of_two-at-requires c =
       second_entry cs a.width a.o a.color c.two.result c.two.ensures A.positive A.range,
     )
 
-pub reduced_at-requires : goal.reduced_at-requires
-reduced_at-requires c =
+pub bracket_at-requires : goal.bracket_at-requires
+bracket_at-requires c =
     let list = c.args.self.now.list.now in
     let A = accepted list c.args.self.now.accepted in
     let cs = candidates_of list in
     let a = c.args in
     let p = c.bracket_of_two-at in
-    (bracket_entries cs a.width a.o a.color p.result (bracket_is cs a.width a.o a.color c.two.result c.two.ensures p.result p.ensures) A.positive A.range).0
-
-pub reduced_at-requires-2 : goal.reduced_at-requires-2
-reduced_at-requires-2 c =
-    let list = c.args.self.now.list.now in
-    let A = accepted list c.args.self.now.accepted in
-    let cs = candidates_of list in
-    let a = c.args in
-    let p = c.bracket_of_two-at in
-    (bracket_entries cs a.width a.o a.color p.result (bracket_is cs a.width a.o a.color c.two.result c.two.ensures p.result p.ensures) A.positive A.range).1
+    bracket_entries cs a.width a.o a.color p.result (bracket_is cs a.width a.o a.color c.two.result c.two.ensures p.result p.ensures) A.positive A.range
