@@ -1,6 +1,7 @@
 /*
- * A line of the recorded list as tokens, in the room that crates/recorded describes: the two bytes at 2 * k say where token k
- * ends, byte 62 how many there are (255 where the line is malformed), and the bytes of the tokens lie from byte 64 on.
+ * A line of the recorded list as tokens, as many as crates/recorded has in its `Room`, in a room of bytes: the two at 2 * k say
+ * where token k ends, byte 62 how many there are (255 where the line is malformed), and the bytes of the tokens lie from byte
+ * 64 on.
  */
 #ifndef ROOM_H
 #define ROOM_H

@@ -162,12 +162,12 @@ fn nearest_two(room: &Room, oklab: &[f32]) -> bool {
     is_answer(room, 5, answer, |two| are_two(room, two))
 }
 
-// Whether the tokens from 6 on are this bracket.
+// Whether the tokens from 5 on are this bracket: 0, and its colours, its ratio and its positions.
 pub fn is_bracket(room: &Room, bracket: Bracket) -> bool {
     let colors = is_color(room, 6, bracket.dark) & is_color(room, 7, bracket.light);
     let positions = room.is_position(9, bracket.dark_position)
         & room.is_position(10, bracket.light_position);
-    colors & (room.is_float(8, bracket.ratio) & positions)
+    room.is_byte(5, 0) & (colors & (room.is_float(8, bracket.ratio) & positions))
 }
 
 // b: reduced normalized oklab color width | number dark light ratio dark_position light_position

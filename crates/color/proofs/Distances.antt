@@ -1,13 +1,14 @@
 -- Oklab distances. A component that passes the test of range is `Within 2`; so the distance of accepted colours is finite, at most 112, not
 -- negative and not -0, and ordinary comparison puts such distances in their order. And what `oklab_sqdist` answers, by its number. Assumes nothing.
-use mathlib.Core.Path.{◌≡◌, refl}
-use mathlib.Core.Bool.{◌&&◌}
+use mathlib.Core.Path.{◌≡◌, refl, sym, subst}
+use mathlib.Core.Bool.{Bool, true, false, not, ◌&&◌}
+use mathlib.Core.List.{[], ◌∷◌}
 use lib.Dec.{T, lit≤, lit<}
 use lib.Ieee.{Float, binary32, round, add, sub, mul, neg, le, of_bits, fits}
 use lib.Ieee.Fits.{and_l, and_r, and_i, add-fits}
 use Rattle.std.specs.Prelude.{Result}
-use Rattle.replies.specs.Replies.{Lowest}
-use Rattle.replies.specs.Refusals.{number_of}
+use Rattle.replies.specs.Replies.{◌if◌, first_reply, Lowest}
+use Rattle.replies.specs.Refusals.{number_of, answer, Answered}
 use Rattle.replies.specs.declared.Refusal.{Refusal}
 use Rattle.replies.proofs.AnswerLaws.{answers_lowest}
 use Rattle.floats.specs.Over.{over}
@@ -16,7 +17,7 @@ use Rattle.floats.proofs.Range.{within_of_le, le_of_within}
 use Rattle.floats.proofs.Within.{round_upto, mul_upto, square_upto, add_upto, sub_within}
 use Rattle.color.specs.declared.Oklab.{Oklab}
 use Rattle.color.specs.Oklab.{two, chroma, square, in_range, all_in_range, sqdist_of}
-use Rattle.color.specs.Oklab.{distance_replies, OklabSqdistAnswered}
+use Rattle.color.specs.Oklab.{distance_replies, OklabSqdistAnswered, distance_of}
 
 -- ---- components
 pub in_range_lem : (x : Float) → T (in_range x) → Within 2 x
@@ -78,6 +79,14 @@ distance_fits p q =
     (mul binary32 chroma (add binary32 (square (sub binary32 p.a q.a)) (square (sub binary32 p.b q.b))))
 
 -- ---- the answer
+-- the value where all is in range, and else 6
+ranged_promised : (v : Float) (ranged : Bool) → Answered ((6 if not ranged) ∷ []) v (answer v (first_reply ((6 if not ranged) ∷ [])))
+ranged_promised v true = record { number = refl; answer = refl }
+ranged_promised v false = record { number = refl; answer = refl }
+
 module _ (a b : Oklab) where
+  pub distance_promised : {r : Result Float Refusal} → r ≡ distance_of a b → OklabSqdistAnswered a b r
+  distance_promised e = subst (OklabSqdistAnswered a b) (sym e) (ranged_promised (sqdist_of a b) (all_in_range a && all_in_range b))
+
   pub distance_lowest : {r : Result Float Refusal} → OklabSqdistAnswered a b r → Lowest (distance_replies a b) (number_of r)
   distance_lowest p = answers_lowest _ _ _ tt p

@@ -241,8 +241,9 @@ impl Ditherer {
             × PositionsAfter d indices.old indices.new }
     {
         let size = self.width as usize * self.height as usize;
+        let lent = *lent; // a copy of its own stays in registers; what is lent is read again at each pixel
         for i in 0..size {
-            let c = self.pixel_color::<DIFFUSES>(zero, lent, i, memory, cells);
+            let c = self.pixel_color::<DIFFUSES>(zero, &lent, i, memory, cells);
             color::put_rgba(out, i, c.color.0);
             note_position(indices, i, c.position);
         }

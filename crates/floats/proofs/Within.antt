@@ -83,7 +83,7 @@ le_of_test a b w t = elim (or_yes (ltb a b) (eqb a b && w) t) [ inl u ↦ le_of_
 pub cut : (x e y d A : ℕ) → 0 < d → y * 1 ≡ A * d → x * d ≤ y * e → x ≤ A * e
 cut x e y d A D p h = le_of_mul-le-mul_right (le_trans h (le_of_eq (ap (λ (z : ℕ). z * e) (sym (mul-one y) ∙ p) ∙ mul_right_comm A d e))) D
 
-upto_of_le : (A : ℕ) (x y : Float) → Signed false x → HasValue y false A 1 → T (le x y) → Upto A x
+pub upto_of_le : (A : ℕ) (x y : Float) → Signed false x → HasValue y false A 1 → T (le x y) → Upto A x
 unfolding le
 upto_of_le A nan y s v t = absurd t
 upto_of_le A (inf true) y s v t = absurd (true≢false s)

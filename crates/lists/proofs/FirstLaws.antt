@@ -1,5 +1,5 @@
--- `first_that` is the first that passes, and nothing else is. A loop that looks for it: the invariant `Searching`, over one position more
--- (`search_next`) to the answer (`search_found`, `search_missed`). Assumes nothing.
+-- `first_that` is the first that passes, and nothing else is. A loop that looks for it: the invariant `Searching`, from nothing seen
+-- (`search_begin`) over one position more (`search_next`) to the answer (`search_found`, `search_missed`). Assumes nothing.
 use mathlib.Core.Path.{◌≡◌, refl, sym, subst}
 use mathlib.Core.Logic.{inl, inr}
 use mathlib.Core.Bool.{Bool, true, false, cond, not}
@@ -60,6 +60,9 @@ pass_all test k (suc n) e j h l =
 pub record Searching (test : ℕ → Bool) (n i : ℕ) : Type 0 where
   pub within : i ≤ n
   pub none : (k : ℕ) → k < i → T (not (test k))
+
+pub search_begin : (test : ℕ → Bool) (n : ℕ) → Searching test n 0
+search_begin test n = record { within = omega arith; none = λ k h. absurd (not-suc-le-zero h) }
 
 module _ {test : ℕ → Bool} {n i : ℕ} (s : Searching test n i) where
   pub search_next : i < n → test i ≡ false → Searching test n (i + 1)

@@ -18,7 +18,7 @@ use Rattle.lists.proofs.FirstLaws.{first_is, first_below, search_missed}
 use Rattle.replies.proofs.ReplyLaws.{reply_none}
 use Rattle.color.specs.Oklab.{in_range, all_in_range, oklab_at}
 use Rattle.shortlist.specs.Candidates.{RangedList}
-use Rattle.lookup.specs.Lists.{lengths_fit, count_fits, first_outside, inside_at, list_replies, list_number}
+use Rattle.lookup.specs.Lists.{lengths_fit, count_fits, first_outside, inside_at, Looked, list_replies, list_number}
 
 -- ---- an accepted list
 pub record Accepted (reduced normalized : List ℕ) (oklab : List Float) : Type 0 where
@@ -72,11 +72,6 @@ accepted reduced normalized oklab e =
     }
 
 -- ---- how the components are looked at
--- what is said of the first i components: whether one is outside
-pub record Looked (xs : List Float) (i : ℕ) (t : Bool) : Type 0 where
-  pub some : t ≡ true → (k : ℕ) × (k < i) × T (not (inside_at xs k))
-  pub none : t ≡ false → (k : ℕ) → k < i → T (not (not (inside_at xs k)))
-
 pub looked_none : (xs : List Float) → Looked xs 0 false
 looked_none xs = record { some = λ e. absurd (clash e refl); none = λ e k h. absurd (not-suc-le-zero h) }
 
@@ -88,13 +83,18 @@ looked_more xs i false h = go (not (inside_at xs i)) refl
     go true e = record { some = λ _. (i, omega arith, holds e); none = λ q. absurd (clash refl q) }
     go false e = record { some = λ q. absurd (clash q refl); none = λ _. below_more (λ (k : ℕ). T (not (not (inside_at xs k)))) i (h.none refl) (fails e) }
 
-pub looked_all : (xs : List Float) (t : Bool) → Looked xs (length xs) t → t ≡ ltb (first_outside xs) (length xs)
+-- one outside among the first i is one of all
+pub looked_some : (xs : List Float) (i : ℕ) → i ≤ length xs → Looked xs i true → true ≡ ltb (first_outside xs) (length xs)
 unfolding first_outside
-looked_all xs true h =
+looked_some xs i w h =
     let test : ℕ → Bool = λ k. not (inside_at xs k) in
     let o = h.some refl in
     let l : first_that test (length xs) ≤ o.0 = first_below (first_is test (length xs)) o.0 o.2 in
-    sym (lt-ltb (first_that test (length xs)) (length xs) (omega (arith, l, o.1)))
+    sym (lt-ltb (first_that test (length xs)) (length xs) (omega (arith, l, o.1, w)))
+
+pub looked_all : (xs : List Float) (t : Bool) → Looked xs (length xs) t → t ≡ ltb (first_outside xs) (length xs)
+unfolding first_outside
+looked_all xs true h = looked_some xs (length xs) (le_refl (length xs)) h
 looked_all xs false h =
     let test : ℕ → Bool = λ k. not (inside_at xs k) in
     let n : ℕ = length xs in

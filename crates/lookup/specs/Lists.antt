@@ -1,6 +1,6 @@
 -- Flat lists of candidates: what is refused of them. Definitions only.
 -- Written from document 01, "Bounds and replies": "Lookup lists 1..65,536", refusals 3, 4 and 6, "The lowest number that applies is given."
-use Rattle.std.specs.Prelude.{ℕ, ◌*◌, ◌/◌, ◌%◌, List, [], ◌∷◌, Bool, not, ◌&&◌, eqb, ltb, length, get_or, Float}
+use Rattle.std.specs.Prelude.{◌≡◌, ℕ, ◌*◌, ◌/◌, ◌%◌, ◌<◌, List, [], ◌∷◌, Bool, true, false, not, ◌&&◌, T, eqb, ltb, length, get_or, Float}
 use Rattle.std.specs.Float.{nan}
 use Rattle.lists.specs.First.{first_that}
 use Rattle.replies.specs.Replies.{◌if◌, Reply, first_reply}
@@ -35,3 +35,8 @@ list_number reduced normalized oklab = first_reply (list_replies reduced normali
 -- component k is from -2 to 2
 abbrev pub inside_at : List Float → ℕ → Bool
 inside_at xs k = in_range (get_or xs k nan)
+
+-- what is said of the first i components: whether one is outside
+pub record Looked (xs : List Float) (i : ℕ) (t : Bool) : Type 0 where
+  pub some : t ≡ true → (k : ℕ) × (k < i) × T (not (inside_at xs k))
+  pub none : t ≡ false → (k : ℕ) → k < i → T (not (not (inside_at xs k)))

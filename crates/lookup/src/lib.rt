@@ -9,12 +9,13 @@ mod flat;
 pub mod seconds;
 
 ghost use Rattle.std.specs.Prelude.{◌≡◌, ℕ, ◌<◌};
+ghost use Rattle.color.specs.Color.{same_reduced};
 ghost use Rattle.shortlist.specs.Candidates.{Candidates};
 ghost use Rattle.lookup.specs.Lists.{count_fits};
 ghost use Rattle.lookup.specs.Bracket.{solid_at, choice_at};
 ghost use Rattle.lookup.specs.Answers.{FlatNearest, FlatTwo, FlatBracket, PickedAt};
 
-use color::{NormalizedColor, Oklab, ReducedColor};
+use color::{NormalizedColor, Oklab, ReducedColor, eq_rgb};
 use conversion::to_oklab;
 use flat::Flat;
 use patterns::ordered_threshold;
@@ -100,13 +101,21 @@ pub struct Choice {
 
 // ---- pick
 
+// Whether two colours are the same, their alphas too. Kept beside the derived `==`, which asks for one byte after the other with
+// a branch: a pixel of an ordered picture took 1.2 times as long, and a `pick` 1.3 times.
+fn same_reduced(a: ReducedColor, b: ReducedColor) -> bool
+    ensures { result ≡ same_reduced a b }
+{
+    eq_rgb(a, b) & (a.0.a == b.0.a)
+}
+
 // Light, if the two colours differ and its ratio exceeds the threshold; else dark.
 pub fn pick_at(bracket: Bracket, threshold: f32) -> Choice
     ensures { result ≡ choice_at bracket threshold }
 {
     let dark = bracket.dark;
     let light = bracket.light;
-    if (dark != light) & (bracket.ratio > threshold) {
+    if !same_reduced(dark, light) & (bracket.ratio > threshold) {
         return Choice {
             color: light,
             position: bracket.light_position,

@@ -2,22 +2,23 @@
 -- 16 for more than 256 colours. And what `bracket_width` answers, by its number. Assumes nothing.
 use mathlib.Core.Path.{◌≡◌, refl, sym, subst}
 use mathlib.Core.Logic.{inl, inr}
-use mathlib.Core.Bool.{Bool, true, false, ◌||◌, false≢true}
+use mathlib.Core.Bool.{Bool, true, false, not, ◌||◌, false≢true}
+use mathlib.Core.List.{[], ◌∷◌}
 use Prim.Native.Nat.{ℕ, ◌+◌, ◌*◌, ◌≤◌, ◌<◌}
 use native.Mathlib.Nat.{mul-le-mul, le_of_lt}
 use native.Mathlib.Omega.{arith}
 use lib.Dec.{T, eqb, eqb→eq}
 use mir.Facts.{or_yes}
 use Rattle.std.specs.Prelude.{Result}
-use Rattle.replies.specs.Replies.{Lowest}
-use Rattle.replies.specs.Refusals.{number_of}
+use Rattle.replies.specs.Replies.{◌if◌, first_reply, Lowest}
+use Rattle.replies.specs.Refusals.{number_of, answer, Answered}
 use Rattle.replies.specs.declared.Refusal.{Refusal}
 use Rattle.replies.proofs.AnswerLaws.{answers_lowest}
 use Rattle.reducing.specs.declared.Reducing.{Reducing}
 use Rattle.reducing.specs.declared.Reducing.TheVariants.{ByAlpha, Grey, OpaqueColor}
 use Rattle.reducing.specs.Reduce.{is_pairing}
 use Rattle.mixing.specs.Widths.{is_shift, clamp_width, sixteenth, width_of}
-use Rattle.mixing.specs.Widths.{width_replies, BracketWidthAnswered}
+use Rattle.mixing.specs.Widths.{width_replies, BracketWidthAnswered, bracket_width_of}
 
 -- ---- the shifts
 pub shift_range : (s : ℕ) → is_shift s ≡ true → (3 ≤ s) × (s ≤ 6)
@@ -88,6 +89,14 @@ width_full s m h k = full (m * s) (mul-le-mul (le_of_lt k) h)
     full p h = omega arith
 
 -- ---- the answer
+-- the value for a shift of the modes, and else 1
+shift_promised : (v : ℕ) (shift : Bool) → Answered ((1 if not shift) ∷ []) v (answer v (first_reply ((1 if not shift) ∷ [])))
+shift_promised v true = record { number = refl; answer = refl }
+shift_promised v false = record { number = refl; answer = refl }
+
 module _ (s m : ℕ) where
+  pub width_promised : {r : Result ℕ Refusal} → r ≡ bracket_width_of s m → BracketWidthAnswered s m r
+  width_promised e = subst (BracketWidthAnswered s m) (sym e) (shift_promised (width_of s m) (is_shift s))
+
   pub width_lowest : {r : Result ℕ Refusal} → BracketWidthAnswered s m r → Lowest (width_replies s) (number_of r)
   width_lowest p = answers_lowest _ _ _ tt p

@@ -7,6 +7,17 @@ ghost use Rattle.pam.specs.Reading.{samples_at};
 
 use color::Rgba8888;
 
+// Copies bytes over as many. Kept beside the library's `copy_from_slice`, which calls `memmove`: the archive for C needs no
+// other names from outside than `memcpy` and `memset`. No public call: the caller sees to the lengths.
+pub fn copy(to: &mut [u8], from: &[u8])
+    requires { length to.old ≡ length from.now }
+    ensures { to.new ≡ from.now }
+{
+    for i in 0..from.len() {
+        to[i] = from[i];
+    }
+}
+
 // Pixel i of three samples.
 #[tactic(auto, unfolding(crate::specs::Pam::pixel_at))]
 fn put_opaque(raster: &[u8], i: usize, pixels: &mut [u8])
@@ -96,5 +107,5 @@ pub fn put_pixels(depth: u32, raster: &[u8], pixels: &mut [u8])
     if depth == 3 {
         return put_all_opaque(raster, pixels.len() / 4, pixels);
     }
-    pixels.copy_from_slice(raster)
+    copy(pixels, raster)
 }

@@ -3,6 +3,7 @@ ghost use Rattle.std.specs.Prelude.{◌≡◌, ◌+◌, ◌*◌, ◌≤◌, ◌<
 ghost use Rattle.std.proofs.lemmas.List.Edits.{sets};
 ghost use Rattle.pam.specs.Pam.{decimal, header_text, pam_of, pam_length, buffers_wrong};
 
+use crate::raster::copy;
 use crate::sides::Sides;
 
 // How many digits a side has.
@@ -26,7 +27,7 @@ fn put(file: &mut [u8], at: usize, bytes: &[u8]) -> usize
     ensures { (result ≡ at + length bytes.now) × (file.new ≡ sets file.old at bytes.now) }
 {
     let end = at + bytes.len();
-    file[at..end].copy_from_slice(bytes);
+    copy(&mut file[at..end], bytes);
     end
 }
 

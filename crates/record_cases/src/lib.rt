@@ -15,9 +15,15 @@ use std::array;
 
 // ---- the list of a case
 
+// The bytes of a list from entry i on, where each entry has so many; none where the list ends before. By the entry's place,
+// since `nth` of the library's chunks goes through the entries before it.
+fn entry(p: &[u8], i: usize, width: usize) -> &[u8] {
+    p.get(i.saturating_mul(width)..).unwrap_or(&[])
+}
+
 // Colour i of a list of colours.
 fn rgba_at(p: &[u8], i: usize) -> Rgba8888 {
-    let bytes = p.chunks(4).nth(i).unwrap_or(&[]);
+    let bytes = entry(p, i, 4);
     Rgba8888::new(
         byte_at(bytes, 0),
         byte_at(bytes, 1),
@@ -28,7 +34,7 @@ fn rgba_at(p: &[u8], i: usize) -> Rgba8888 {
 
 // Oklab colour i of a list.
 fn oklab_at(p: &[u8], i: usize) -> Oklab {
-    cases::oklab_at(p.chunks(12).nth(i).unwrap_or(&[]), 0)
+    cases::oklab_at(entry(p, i, 12), 0)
 }
 
 fn record_at(room: &Room, i: usize) -> CandidateColor {

@@ -308,7 +308,9 @@ impl Value for i16 {
     ghost takes_some = { Prim.search rules };
 }
 
-// Float i of a part.
+// Float i of a part, 0 where its bytes are not all there. By its place, since `nth` of the library's chunks goes through the
+// floats before it.
 pub fn float_at(p: &[u8], i: usize) -> f32 {
-    p.chunks_exact(4).nth(i).map_or(0.0, f32::read)
+    let from = i.saturating_mul(4);
+    p.get(from..from.saturating_add(4)).map_or(0.0, f32::read)
 }

@@ -39,10 +39,11 @@ impl<'a> Oklabs<'a> {
     ghost use Rattle.remembered.specs.Table.{nearest_alone, TableOf};
     ghost use Rattle.remembered.specs.Lent.{labs};
 
-    // The nearest entry, worked out.
-    fn nearest_anew(&self, color: NormalizedColor, seed: usize) -> usize
-        requires { seed < self.now.count }
-        ensures { result ≡ nearest_in (labs self.now) self.now.count (to_oklab color) }
+    // The nearest entry, worked out. By value, since a call that is lent it would have all that it is a part of written to memory
+    // and read from there at each pixel.
+    fn nearest_anew(self, color: NormalizedColor, seed: usize) -> usize
+        requires { seed < self.count }
+        ensures { result ≡ nearest_in (labs self.entry) self.entry.count (to_oklab color) }
     {
         let o = to_oklab_with(self.linear, color);
         nearest_position(self.oklab, self.count, o.l, o.a, o.b, seed)

@@ -1,22 +1,22 @@
--- The answers for `checks::any_outside`: its contract follows from its invariants.
-use mathlib.Core.Path.{sym, subst}
-use mathlib.Core.Bool.{Bool, not, ◌||◌}
-use Prim.Native.Nat.{ℕ, ◌+◌}
+-- The answers for `checks::any_outside`: its contract follows from its invariant.
+use mathlib.Core.Path.{subst}
+use mathlib.Core.Bool.{Bool, false}
+use Prim.Native.Nat.{ℕ, ◌+◌, ◌*◌}
 use native.Mathlib.Nat.{le_antisymm}
-use Rattle.lookup.proofs.ListLaws.{Looked, looked_none, looked_more, looked_all}
+use native.Mathlib.Omega.{arith}
+use Rattle.lookup.specs.Lists.{Looked}
+use Rattle.lookup.proofs.ListLaws.{looked_some, looked_all}
 use Rattle.lookup.proofs.checks.any_outside.Goals as goal
 
-pub loop-x-init : goal.loop-x-init
-loop-x-init c = looked_none c.args.oklab.now
-
-pub loop-x-preserved : goal.loop-x-preserved
-loop-x-preserved c =
-    let l = c.loop-x in
+pub returns-then-some_outside : goal.returns-then-some_outside
+returns-then-some_outside c =
     let xs = c.args.oklab.now in
-    subst (λ (b : Bool). Looked xs (l.x-index + 1) (l.outside || not b)) (sym c.in_range.ensures) (looked_more xs l.x-index l.outside l.invariant)
+    let k = 8 * c.loop-part.part + 8 in
+    looked_some xs k (omega (arith, c.loop-part-test.true)) (subst (λ (t : Bool). Looked xs k t) c.if-some_outside.true (c.some_outside.ensures c.loop-part.invariant))
 
 pub returns : goal.returns
 returns c =
-    let l = c.loop-x in
     let xs = c.args.oklab.now in
-    looked_all xs l.outside (subst (λ (i : ℕ). Looked xs i l.outside) (le_antisymm l.auto.x-index-end c.loop-x-test.false) l.invariant)
+    looked_all xs c.some_outside-2.result
+    (c.some_outside-2.ensures
+    (subst (λ (i : ℕ). Looked xs (8 * i) false) (le_antisymm c.loop-part.auto.part-end c.loop-part-test.false) c.loop-part.invariant))

@@ -14,6 +14,6 @@ returns c =
     let n = length a.pixels.now / 4 in
     let d : a.depth ≡ 4 = omega (arith, c.requires.1, c.requires.2, c.if-depth-eq3.false) in
     let long : length a.raster.now ≡ 4 * n = c.requires.3 ∙ ap (λ (d : ℕ). d * n) d in
-    c.copy_from_slice.ensures.after
+    c.copy.ensures
     ∙ four_samples n a.raster.now long
     ∙ ap (λ (d : ℕ). gather n (pixel_at d a.raster.now)) (sym d)

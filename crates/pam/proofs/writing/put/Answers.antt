@@ -4,4 +4,4 @@ use Rattle.pam.proofs.PieceLaws.{put_piece}
 use Rattle.pam.proofs.writing.put.Goals as goal
 
 pub returns : goal.returns
-returns c = (refl, put_piece c.args.file.now c.args.bytes.now _ c.args.at c.requires c.copy_from_slice.ensures.after)
+returns c = (refl, put_piece c.args.file.now c.args.bytes.now _ c.args.at c.requires c.copy.ensures)

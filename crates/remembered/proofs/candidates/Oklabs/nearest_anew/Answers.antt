@@ -11,7 +11,7 @@ use Rattle.remembered.proofs.candidates.Oklabs.nearest_anew.Goals as goal
 
 pub nearest_position-requires : goal.nearest_position-requires
 nearest_position-requires c = (
-  c.args.self.now.ranged,
+  c.args.self.ranged,
   subst (λ (o : Oklab). T (all_in_range o)) (sym c.to_oklab_with-o.ensures)
       (range_all_in (to_oklab c.args.color) (ranged c.args.color (search rules) (search rules) (search rules))),
   c.requires,

@@ -1,0 +1,1 @@
+-- The answers for `checks::some_outside`: its contract follows from its invariant.
